@@ -1,0 +1,21 @@
+//! Texts and lists: what every other crate of the server stands on.
+//!
+//! A [`Text`] is owned and seen as the list of its characters; a [`List`] is owned and seen as the list of its members.
+#![tactic(auto)]
+
+mod list;
+mod pair;
+mod text;
+
+pub use list::List;
+pub use pair::Pair;
+pub use text::Text;
+
+/// A list of texts.
+pub type Texts = List<Text>;
+
+/// A list of names with their values, which may have a name more than once.
+pub type Pairs = List<Pair>;
+
+#[cfg(test)]
+mod tests;

@@ -1,0 +1,109 @@
+ghost use Rattle.std.specs.Prelude.{◌≡◌, ◌==◌, ◌∷◌, ◌++◌, IfOk, OnErr, chars, encode_utf8_all};
+
+use std::alloc::{AllocError, Global};
+use std::cmp::Ordering;
+use std::marker::Model;
+
+/// A text, seen as the list of its characters (Unicode scalar values).
+#[derive(Debug, Drop)]
+pub struct Text {
+    text: String,
+}
+
+impl Model for Text {
+    ghost use Rattle.std.specs.Prelude.{ℕ, List, chars, string_bytes};
+
+    ghost Value = { List ℕ };
+
+    ghost view = { λ t. chars (string_bytes t.text) };
+}
+
+impl Text {
+    /// A text of its own with these characters.
+    pub fn of(alloc: Global, text: &str) -> Result<Text, AllocError>
+        ensures { IfOk result (λ t. t ≡ chars text.now) }
+    {
+        let text = String::from_str(alloc, text)?;
+        Ok(Text { text })
+    }
+
+    /// The characters, as a borrowed text.
+    pub fn as_str(&self) -> &str
+        ensures characters { chars result.now ≡ self.now }
+        ensures bytes { result.now ≡ encode_utf8_all self.now }
+    {
+        self.text.as_str()
+    }
+}
+
+impl PartialEq for Text {
+    ghost use Rattle.std.proofs.Common.{rules};
+    ghost use Rattle.std.specs.Cmp.Lexicographic.{pointwise};
+    ghost use Rattle.std.specs.Cmp.Rules.{comparing};
+
+    ghost eq = { pointwise ◌==◌ };
+
+    ghost laws = { Prim.search (comparing, rules) };
+
+    fn eq(&self, other: &Text) -> bool {
+        self.text == other.text
+    }
+}
+
+impl Eq for Text {
+    ghost use Rattle.std.proofs.Common.{rules};
+    ghost use Rattle.std.specs.Cmp.Rules.{comparing};
+
+    ghost laws = { Prim.search (comparing, rules) };
+}
+
+/// The byte order of the texts' UTF-8, which is also the order of their code points.
+impl Ord for Text {
+    ghost use Rattle.mf_text.specs.Order.{byte_cmp, byte_cmp_total, byte_cmp_ties};
+    ghost use Rattle.std.specs.Prelude.{refl};
+
+    ghost cmp = { byte_cmp };
+
+    ghost total = { byte_cmp_total };
+
+    ghost matches_partial_cmp = { λ a b. refl };
+
+    ghost matches_eq = { byte_cmp_ties };
+
+    fn cmp(&self, other: &Text) -> Ordering {
+        self.text.cmp(&other.text)
+    }
+}
+
+impl PartialOrd for Text {
+    ghost use Rattle.mf_text.specs.Order.{byte_cmp, byte_cmp_total, byte_cmp_ties};
+    ghost use Rattle.std.specs.Cmp.{po};
+    ghost use Rattle.std.specs.Prelude.{Some};
+
+    ghost partial_cmp = { λ a b. Some (byte_cmp a b) };
+
+    ghost laws = { po byte_cmp_total byte_cmp_ties };
+
+    fn partial_cmp(&self, other: &Text) -> Option<Ordering> {
+        Some(self.cmp(other))
+    }
+}
+
+impl From<String> for Text {
+    ghost use Rattle.std.specs.Prelude.{string_bytes};
+
+    ghost from_gives = { λ s t. t ≡ chars (string_bytes s) };
+
+    fn from(text: String) -> Text {
+        Text { text }
+    }
+}
+
+impl Clone for Text {
+    ghost is_clone = { λ s t. t ≡ s };
+
+    fn clone(&self) -> Result<Text, AllocError> {
+        let text = self.text.clone()?;
+        Ok(Text { text })
+    }
+}
