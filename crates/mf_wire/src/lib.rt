@@ -1,0 +1,13 @@
+//! The lines of the server: requests read, replies written.
+//!
+//! A request is a line of JSON ([RFC 8259](https://www.rfc-editor.org/rfc/rfc8259)), and each request gets one
+//! line of compact JSON, the keys of every object in byte order.
+#![tactic(auto)]
+
+mod lines;
+mod reading;
+mod reply;
+
+pub use lines::first_line;
+pub use reading::{WireError, read_value};
+pub use reply::{MEMORY_LINE, Reply, reply_line};
