@@ -1,23 +1,10 @@
--- How the bytes of a sink or of a source go on over several calls.
-use Rattle.std.proofs.Common.{ℕ, ◌≤◌, List, [], ◌++◌, Option, refl, sym, ap, ◌∙◌, append-nil, append_assoc, arith}
-use Rattle.std.specs.Io.KnownBytes.{Appends, Consumes, Keeps}
-use Rattle.std.proofs.KnownBytes.{Appends-nil, Appends-trans, Appends-kept as appends_kept, Consumes-nil, Consumes-trans, Consumes-kept as consumes_kept}
+-- How the bytes of a sink or of a source go on over several calls. The lemmas on whole lists are those of std.
+use Rattle.std.proofs.Common.{◌≡◌, ℕ, ◌≤◌, List, [], ◌++◌, Option, Some, None, IfSome, length, length-append, refl, sym, ap, ◌∙◌, append-nil, append_assoc, arith}
+use Rattle.std.specs.Io.KnownBytes.{Appends, Consumes, IsAtEnd, Keeps}
+pub use Rattle.std.proofs.KnownBytes.{Appends-nil, Appends-trans, Appends-kept, Consumes-nil, Consumes-trans, Consumes-kept, Consumes-whole}
 use Rattle.mf_io.specs.Known.{ConsumesAtMost, ConsumesJust, TakesFront}
 
 -- ---- what a sink takes
-
--- nothing was appended yet
-pub Appends-none : (a : Option (List ℕ)) → Appends a a []
-Appends-none a = Appends-nil a
-
--- two calls appended their bytes one after the other
-pub Appends-then : (a b c : Option (List ℕ)) (first second : List ℕ) → Appends a b first → Appends b c second
-    → Appends a c (first ++ second)
-Appends-then a b c first second = Appends-trans a b c first second
-
--- a call that keeps what was taken comes after
-pub Appends-kept : (a b c : Option (List ℕ)) (bytes : List ℕ) → Appends a b bytes → Keeps b c → Appends a c bytes
-Appends-kept a b c bytes = appends_kept a b c bytes
 
 -- nothing of the bytes was taken
 pub TakesFront-none : (a : Option (List ℕ)) (bytes : List ℕ) → TakesFront a a bytes
@@ -52,23 +39,10 @@ TakesFront-kept a b c bytes front keeps = record {
   sent = front.sent;
   unsent = front.unsent;
   whole = front.whole;
-  appended = appends_kept a b c front.sent front.appended keeps;
+  appended = Appends-kept a b c front.sent front.appended keeps;
 }
 
 -- ---- what a source gives
-
--- nothing was consumed yet
-pub Consumes-none : (a : Option (List ℕ)) → Consumes a a []
-Consumes-none a = Consumes-nil a
-
--- two calls consumed their bytes one after the other
-pub Consumes-then : (a b c : Option (List ℕ)) (first second : List ℕ) → Consumes a b first → Consumes b c second
-    → Consumes a c (first ++ second)
-Consumes-then a b c first second = Consumes-trans a b c first second
-
--- a call that keeps what is left comes after
-pub Consumes-kept : (a b c : Option (List ℕ)) (bytes : List ℕ) → Consumes a b bytes → Keeps b c → Consumes a c bytes
-Consumes-kept a b c bytes = consumes_kept a b c bytes
 
 -- what was consumed exactly was consumed at most
 pub ConsumesAtMost-just : (n : ℕ) (a b : Option (List ℕ)) → ConsumesJust n a b → ConsumesAtMost n a b
@@ -77,3 +51,13 @@ ConsumesAtMost-just n a b just = record { bytes = just.bytes; count = omega (ari
 -- a bound may be raised
 pub ConsumesAtMost-wider : (n m : ℕ) (a b : Option (List ℕ)) → n ≤ m → ConsumesAtMost n a b → ConsumesAtMost m a b
 ConsumesAtMost-wider n m a b wider most = record { bytes = most.bytes; count = omega (arith, wider, most.count); consumed = most.consumed }
+
+-- a source that tells its bytes and is at its end gave all that it had
+pub Consumes-all_told : (a b : Option (List ℕ)) (bytes : List ℕ) → Consumes a b bytes → IsAtEnd b → IfSome a (λ left. bytes ≡ left)
+Consumes-all_told a b bytes consumed end = Consumes-whole a b bytes (λ left. bytes ≡ left) consumed end refl
+
+-- a source that tells its bytes had as many as were consumed
+pub ConsumesJust-told : (n : ℕ) (a b : Option (List ℕ)) → ConsumesJust n a b → IfSome a (λ left. n ≤ length left)
+ConsumesJust-told n None b just = tt
+ConsumesJust-told n (Some left) None just = absurd just.consumed
+ConsumesJust-told n (Some left) (Some rest) just = rw (just.consumed, length-append) (omega (arith, just.count))

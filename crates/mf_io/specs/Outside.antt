@@ -1,7 +1,8 @@
--- A reader or a writer of std's, with the count of its faults.
+-- Readers and writers of std's as sources and sinks.
 use Rattle.std.specs.Prelude.{ℕ, refl}
 use Rattle.std.specs.Coded.{Coded, code_by, coded×, coded_ℕ}
 
+-- a reader or a writer, and how often it has failed
 pub record Counted (T : Type 0) : Type 0 where
   pub object : T
   pub faults : ℕ

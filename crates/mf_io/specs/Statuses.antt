@@ -3,6 +3,7 @@ use Rattle.std.specs.Prelude.{ℕ}
 use Rattle.mf_io.specs.declared.statuses.Status.{Status}
 use Rattle.mf_io.specs.declared.statuses.Status.TheVariants.{Ended, Usage, ReadFault, WriteFault, LineTooLong, OutOfMemory, InputFull, ListenFault}
 
+-- the number of each status
 abbrev pub status_number : Status → ℕ
 status_number Ended = 0
 status_number Usage = 1

@@ -14,6 +14,8 @@ mod outside;
 mod statuses;
 mod std_sink;
 mod std_source;
+#[cfg(test)]
+mod tests;
 mod whole;
 
 pub use bounds::Caps;

@@ -8,7 +8,7 @@ use thiserror::Error;
 
 /// A call of a source or of a sink failed, and its count of faults rose or stands at its last value.
 #[derive(Clone, Copy, Debug, PartialEq, Eq, Error)]
-#[error("the outside failed")]
+#[error("reading or writing failed")]
 pub struct Failed;
 
 /// Bytes to read, which come in parts.

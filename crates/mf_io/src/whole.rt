@@ -62,10 +62,11 @@ impl From<AllocError> for GatherError {
     }
 }
 
-/// How many bytes a read of an input asks for at most.
+// How many bytes a read of an input asks for at most.
 const BUFFER: u64 = 65_536;
 
-/// Reads an input to its end, where that comes before `cap` bytes.
+/// Reads an input to its end, where that comes before `cap` bytes. It asks for at most 65,536 bytes at a time, and
+/// never takes more than `cap`.
 ///
 /// # Errors
 ///

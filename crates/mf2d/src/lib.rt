@@ -1,0 +1,11 @@
+//! The commands of `mf2d`, a formatting server for Unicode MessageFormat 2.0, over any source and sink.
+#![tactic(auto)]
+
+mod command;
+mod desk;
+mod pipe;
+
+pub use command::{Command, PIPE_CAP, top};
+
+#[cfg(test)]
+mod tests;

@@ -1,0 +1,170 @@
+ghost use Rattle.std.specs.Prelude.{◌<◌};
+
+use super::*;
+use mf_io::{MemorySink, MemorySource, Status};
+use mf_text::{Text, Texts};
+use std::alloc::{AllocError, Global};
+use std::test::Fail;
+
+const BAD_JSON: &str = "{\"error\":\"bad-json\"}\n";
+
+const NOT_BUILT: &str = "{\"error\":\"not-built\"}\n";
+
+/// Two requests, the second without a line feed.
+const REQUESTS: &[u8] =
+    b"{\"op\":\"publish\",\"locale\":\"en\",\"messages\":{\"hi\":\"Hello {$name}!\"}}\n\
+    {\"op\":\"format\",\"locale\":\"en\",\"id\":\"hi\",\"args\":{\"name\":\"Ann\"}}";
+
+/// What a run left behind.
+#[derive(Debug, Drop)]
+struct Run {
+    status: Status,
+    written: Vec<u8>,
+    read_faults: u64,
+    write_faults: u64,
+}
+
+/// Bytes cut into pieces of this length.
+fn pieces(alloc: Global, bytes: &[u8], length: usize) -> Result<Vec<Vec<u8>>, AllocError>
+    requires { 0 < length }
+{
+    let mut pieces = Vec::new(alloc);
+    for piece in bytes.chunks(length) {
+        pieces.push(Vec::from_slice(alloc, piece)?)?;
+    }
+    Ok(pieces)
+}
+
+fn run_words(
+    alloc: Global,
+    words: &[&str],
+    input: Vec<Vec<u8>>,
+    failing_reads: Vec<u64>,
+    failing_writes: Vec<u64>,
+) -> Result<Run, AllocError> {
+    let mut texts = Texts::new(alloc);
+    for word in words {
+        texts.push(Text::of(alloc, word)?)?;
+    }
+    let mut source = MemorySource::new(input, failing_reads);
+    let mut sink = MemorySink::new(alloc, 1_000_000, failing_writes);
+    let status = top(alloc, &texts, &mut source, &mut sink);
+    Ok(Run {
+        status,
+        written: Vec::from_slice(alloc, sink.taken())?,
+        read_faults: source.faults(),
+        write_faults: sink.faults(),
+    })
+}
+
+/// A run of `pipe` in which nothing fails.
+fn pipe(alloc: Global, input: Vec<Vec<u8>>) -> Result<Run, AllocError> {
+    run_words(alloc, &["pipe"], input, Vec::new(alloc), Vec::new(alloc))
+}
+
+#[test]
+fn every_line_gets_its_reply(rt: HostRuntime) -> Result<(), Fail> {
+    let alloc = rt.alloc();
+    let mut deep = String::new(alloc);
+    for _ in 0..127 {
+        deep.push('[')?;
+    }
+    for _ in 0..127 {
+        deep.push(']')?;
+    }
+    let too_deep = format!(in alloc; "[{deep}]")?;
+    let rows: [(&[u8], &[&str]); 9] = [
+        (b"", &[]),
+        (b"x", &[BAD_JSON]),
+        (b"\n", &[BAD_JSON]),
+        (b"\"\xff\"\n", &[BAD_JSON]),
+        (b"[]\n\n[]", &[NOT_BUILT, BAD_JSON, NOT_BUILT]),
+        (b"{} \r\n 1", &[NOT_BUILT, NOT_BUILT]),
+        (deep.as_bytes(), &[NOT_BUILT]),
+        (too_deep.as_bytes(), &[BAD_JSON]),
+        (REQUESTS, &[NOT_BUILT, NOT_BUILT]),
+    ];
+    for (input, replies) in rows {
+        let mut expected = String::new(alloc);
+        for reply in replies {
+            expected.push_str(reply)?;
+        }
+        for length in [1, 3, 1_000] {
+            let run = pipe(alloc, pieces(alloc, input, length)?)?;
+            assert_eq!(rt; run.status, Status::Ended);
+            assert_eq!(rt;
+                str::from_utf8(&run.written),
+                Ok(expected.as_str()),
+                "{input:?} by {length}"
+            );
+        }
+    }
+    Ok(())
+}
+
+#[test]
+fn other_words_are_no_command(rt: HostRuntime) -> Result<(), Fail> {
+    let alloc = rt.alloc();
+    let rows: [&[&str]; 5] = [&[], &["pipes"], &["Pipe"], &["pipe", ""], &["", "pipe"]];
+    for words in rows {
+        let input = pieces(alloc, REQUESTS, 7)?;
+        let run = run_words(alloc, words, input, Vec::new(alloc), Vec::new(alloc))?;
+        assert_eq!(rt; run.status, Status::Usage, "{words:?}");
+        assert!(rt; run.written.is_empty());
+    }
+    Ok(())
+}
+
+#[test]
+fn a_fault_ends_the_run(rt: HostRuntime) -> Result<(), Fail> {
+    let alloc = rt.alloc();
+    // The third read fails, and nothing is answered.
+    let input = pieces(alloc, REQUESTS, 10)?;
+    let read = run_words(alloc, &["pipe"], input, vec![in alloc; 3]?, Vec::new(alloc))?;
+    assert_eq!(rt; read.status, Status::ReadFault);
+    assert_eq!(rt; read.read_faults, 1);
+    assert!(rt; read.written.is_empty());
+
+    // A write or the flush at the end fails. Each reply is two writes.
+    let rows = [(1, ""), (2, "{\"error\":\"not-built\"}"), (3, NOT_BUILT)];
+    for (failing, written) in rows {
+        let input = pieces(alloc, REQUESTS, 10)?;
+        let run = run_words(
+            alloc,
+            &["pipe"],
+            input,
+            Vec::new(alloc),
+            vec![in alloc; failing]?,
+        )?;
+        assert_eq!(rt; run.status, Status::WriteFault);
+        assert_eq!(rt; run.write_faults, 1);
+        assert_eq!(rt; str::from_utf8(&run.written), Ok(written));
+    }
+    let flush = run_words(
+        alloc,
+        &["pipe"],
+        Vec::new(alloc),
+        Vec::new(alloc),
+        vec![in alloc; 1]?,
+    )?;
+    assert_eq!(rt; flush.status, Status::WriteFault);
+    Ok(())
+}
+
+#[test]
+fn an_input_has_a_cap(rt: HostRuntime) -> Result<(), Fail> {
+    let alloc = rt.alloc();
+    let cap = PIPE_CAP as usize;
+    let rows = [
+        (cap - 1, Status::Ended),
+        (cap, Status::InputFull),
+        (cap + 1, Status::InputFull),
+    ];
+    for (length, status) in rows {
+        let input = vec![in alloc; vec![in alloc; b' '; length]?]?;
+        let run = pipe(alloc, input)?;
+        assert_eq!(rt; run.status, status, "{length} bytes");
+        assert_eq!(rt; run.written.is_empty(), status == Status::InputFull);
+    }
+    Ok(())
+}
