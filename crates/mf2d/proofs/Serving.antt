@@ -3,7 +3,7 @@ use Rattle.std.proofs.Common.{◌≡◌, ℕ, ◌≤◌, List, [], ◌∷◌, �
 use Rattle.std.proofs.lemmas.List.{append-nil}
 use Rattle.std.proofs.lemmas.List.Concat.{flat_map-append}
 use Rattle.std.specs.Io.KnownBytes.{Appends, Keeps}
-use Rattle.mf_io.proofs.Told.{Appends-none, Appends-then, Appends-kept}
+use Rattle.mf_io.proofs.Told.{Appends-nil, Appends-trans, Appends-kept}
 use Rattle.mf_wire.specs.Lines.{lines_of}
 use Rattle.mf2d.specs.Served.{Desk, empty_desk, Answered, Served}
 use Rattle.mf2d.specs.Transcripts.{ended, written, RepliesWhole, RepliesInPart, AnswersAll, AnswersFront}
@@ -33,7 +33,7 @@ pub record Serving (bytes rest : List ℕ) (desk : Desk) (old now : Option (List
   pub sent : Appends old now (written replies)
 
 pub start : (old : Option (List ℕ)) (bytes : List ℕ) (desk : Desk) → desk ≡ empty_desk → Serving bytes bytes desk old old
-start old bytes desk opens = record { lines = []; replies = []; split = refl; served = opens; sent = Appends-none old }
+start old bytes desk opens = record { lines = []; replies = []; split = refl; served = opens; sent = Appends-nil old }
 
 module _ (bytes rest : List ℕ) (desk : Desk) (a b c : Option (List ℕ)) (so_far : Serving bytes rest desk a b) where
   split_more : (line others : List ℕ) → lines_of rest ≡ line ∷ lines_of others → lines_of bytes ≡ (so_far.lines ++ line ∷ []) ++ lines_of others
@@ -48,7 +48,7 @@ module _ (bytes rest : List ℕ) (desk : Desk) (a b c : Option (List ℕ)) (so_f
     split = split_more line others next;
     served = served_more empty_desk so_far.lines so_far.replies line whole.reply desk after so_far.served whole.answered;
     sent = subst (Appends a c) (sym (written-more so_far.replies whole.reply))
-        (Appends-then a b c (written so_far.replies) (ended whole.reply) so_far.sent whole.sent);
+        (Appends-trans a b c (written so_far.replies) (ended whole.reply) so_far.sent whole.sent);
   }
 
   pub stopped : (line others : List ℕ) (after : Desk) → lines_of rest ≡ line ∷ lines_of others → RepliesInPart b c desk line after
@@ -65,7 +65,7 @@ module _ (bytes rest : List ℕ) (desk : Desk) (a b c : Option (List ℕ)) (so_f
     one = omega arith;
     served = served_more empty_desk so_far.lines so_far.replies line part.reply desk after so_far.served part.answered;
     cut = part.sent.whole ∙ sym (written-one part.reply);
-    sent = Appends-then a b c (written so_far.replies) part.sent.sent so_far.sent part.sent.appended;
+    sent = Appends-trans a b c (written so_far.replies) part.sent.sent so_far.sent part.sent.appended;
   }
 
   no_more : rest ≡ [] → lines_of bytes ≡ so_far.lines

@@ -3,10 +3,14 @@
 //! A [`Text`] is owned and seen as the list of its characters; a [`List`] is owned and seen as the list of its members.
 #![tactic(auto)]
 
+mod arguments;
+mod direction;
 mod list;
 mod pair;
 mod text;
 
+pub use arguments::{Argued, Arguments};
+pub use direction::Direction;
 pub use list::List;
 pub use pair::Pair;
 pub use text::Text;

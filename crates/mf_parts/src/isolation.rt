@@ -1,0 +1,45 @@
+ghost use Rattle.std.specs.Prelude.{◌≡◌, ◌++◌, IfOk};
+ghost use Rattle.mf_parts.specs.Isolation.{between, isolated_part, opening};
+
+use crate::{Part, Parts};
+use mf_text::Direction;
+use std::alloc::AllocError;
+
+/// The parts with one more at the end, between the marks that it gets in a message of this direction.
+pub fn push_isolated(parts: Parts, part: Part, message: Direction) -> Result<Parts, AllocError>
+    ensures { IfOk result (λ longer. longer ≡ parts ++ isolated_part message part) }
+{
+    let mark = match &part {
+        Part::String { dir, forced, .. } => opening_mark(message, *dir, *forced),
+        Part::Text(_) | Part::Isolate(_) => None,
+    };
+    push_between(parts, mark, part)
+}
+
+/// The mark before a value of direction `dir`, if it gets marks.
+fn opening_mark(message: Direction, dir: Direction, forced: bool) -> Option<char>
+    ensures { result ≡ opening message dir forced }
+{
+    match (message, dir) {
+        (Direction::Ltr, Direction::Ltr) if !forced => None,
+        (_, Direction::Ltr) => Some('\u{2066}'),
+        (_, Direction::Rtl) => Some('\u{2067}'),
+        (_, Direction::Unknown) => Some('\u{2068}'),
+    }
+}
+
+/// The parts with one more at the end, after a mark and before the mark that ends its isolation, if there is one.
+fn push_between(parts: Parts, mark: Option<char>, part: Part) -> Result<Parts, AllocError>
+    ensures { IfOk result (λ longer. longer ≡ parts ++ between mark part) }
+{
+    let mut parts = parts;
+    match mark {
+        None => parts.push(part)?,
+        Some(mark) => {
+            parts.push(Part::Isolate(mark))?;
+            parts.push(part)?;
+            parts.push(Part::Isolate('\u{2069}'))?;
+        }
+    }
+    Ok(parts)
+}
