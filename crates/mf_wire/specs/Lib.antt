@@ -1,3 +1,5 @@
+pub mod Fields
 pub mod Lines
 pub mod Reading
 pub mod Replies
+pub mod Requests

@@ -1,18 +1,60 @@
--- The reply lines.
-use Rattle.std.specs.Prelude.{ℕ, List, codes}
-use Rattle.serde_json.specs.Data.{Data, string, object, member, no_members}
+-- The reply lines: compact JSON (RFC 8259), the keys of every object in byte order.
+use Rattle.std.specs.Prelude.{ℕ, List, map, codes, encode_utf8, encode_utf8_all, Option, Some, None}
+use Rattle.serde_json.specs.Data.{Data, number, string, array, object, unsigned, no_items, member, no_members}
+use Rattle.serde_json.specs.View.{items_of}
 use Rattle.serde_json.specs.Written.{compact_text}
+use Rattle.mf_parts.specs.Joined.{text_of}
+use Rattle.mf_parts.specs.declared.part.Part.{Part}
+use Rattle.mf_parts.specs.declared.part.Part.TheVariants.{Text, Isolate, String}
+use Rattle.mf_wire.specs.declared.reply.Op.{Op}
+use Rattle.mf_wire.specs.declared.reply.Op.TheVariants.{Publish}
 use Rattle.mf_wire.specs.declared.reply.Reply.{Reply}
-use Rattle.mf_wire.specs.declared.reply.Reply.TheVariants.{BadJson, NotBuilt}
+use Rattle.mf_wire.specs.declared.reply.Reply.TheVariants.{Accepted, Formatted, BadJson, NotBuilt, NoMessage}
+
+-- a text, by its characters
+abbrev pub text_data : List ℕ → Data
+text_data text = string (encode_utf8_all text)
 
 -- an object that names an error alone
 abbrev pub error_data : List ℕ → Data
 error_data name = object (member (codes "error") (string name) no_members)
 
--- the JSON value of a reply, the keys of every object in byte order
+-- the object of a string with an id, and of one without
+abbrev pub string_data : Option (List ℕ) → List ℕ → Data
+string_data None value = object (member (codes "kind") (string (codes "string")) (member (codes "value") (text_data value) no_members))
+string_data (Some id) value =
+    object (member (codes "id") (text_data id) (member (codes "kind") (string (codes "string")) (member (codes "value") (text_data value) no_members)))
+
+-- the object of a part
+abbrev pub part_data : Part → Data
+part_data (Text text) = object (member (codes "kind") (string (codes "text")) (member (codes "value") (text_data text) no_members))
+part_data (Isolate mark) = object (member (codes "kind") (string (codes "isolate")) (member (codes "value") (string (encode_utf8 mark)) no_members))
+part_data (String value dir forced id) = string_data id value
+
+abbrev pub parts_data : List Part → Data
+parts_data parts = array (items_of (map part_data parts))
+
+abbrev pub op_name : Op → List ℕ
+op_name Publish = codes "publish"
+
+-- the object of a formatted message, whose text is its parts joined
+abbrev pub formatted_data : ℕ → List ℕ → List Part → Data
+formatted_data edition tag parts = object
+    (member (codes "edition") (number (unsigned edition))
+    (member (codes "errors") (array no_items)
+    (member (codes "locale") (text_data tag)
+    (member (codes "ok") (string (codes "format"))
+    (member (codes "parts") (parts_data parts)
+    (member (codes "text") (text_data (text_of parts)) no_members))))))
+
+-- the JSON value of a reply
 abbrev pub reply_data : Reply → Data
+reply_data (Accepted edition op) = object (member (codes "edition") (number (unsigned edition)) (member (codes "ok") (string (op_name op)) no_members))
+reply_data (Formatted edition tag parts) = formatted_data edition tag parts
 reply_data BadJson = error_data (codes "bad-json")
 reply_data NotBuilt = error_data (codes "not-built")
+reply_data (NoMessage edition) =
+    object (member (codes "edition") (number (unsigned edition)) (member (codes "error") (string (codes "no-message")) no_members))
 
 -- the bytes of a reply's line, without its line feed
 abbrev pub reply_line : Reply → List ℕ

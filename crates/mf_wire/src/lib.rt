@@ -4,10 +4,13 @@
 //! line of compact JSON, the keys of every object in byte order.
 #![tactic(auto)]
 
+mod fields;
 mod lines;
 mod reading;
 mod reply;
+mod request;
 
 pub use lines::first_line;
-pub use reading::{WireError, read_value};
-pub use reply::{MEMORY_LINE, Reply, reply_line};
+pub use reading::WireError;
+pub use reply::{MEMORY_LINE, Op, Reply, reply_line};
+pub use request::{Request, read_request};

@@ -3,7 +3,7 @@ ghost use Rattle.serde_json.specs.View.{view};
 ghost use Rattle.mf_wire.specs.Reading.{reading};
 
 use serde_json::Value;
-use std::alloc::Global;
+use std::alloc::{AllocError, Global};
 use thiserror::Error;
 
 /// Why a line is no request.
@@ -13,19 +13,30 @@ pub enum WireError {
     /// 127 arrays and objects.
     #[error("the line is no JSON")]
     BadJson,
+    /// The line is JSON, and asks for what isn't built yet.
+    #[error("the line asks for what isn't built yet")]
+    NotBuilt,
     /// There was no memory for the value of the line.
     #[error("out of memory")]
     OutOfMemory,
 }
 
-/// The JSON value of a line.
-///
-/// # Errors
-///
-/// `BadJson` and `OutOfMemory`.
-pub fn read_value(alloc: Global, line: &[u8]) -> Result<Value, WireError>
+impl From<AllocError> for WireError {
+    ghost use Rattle.std.specs.Prelude.{◌≡◌};
+    ghost use Rattle.mf_wire.specs.declared.reading.WireError.TheVariants.{OutOfMemory};
+
+    ghost from_gives = { λ _ e. e ≡ OutOfMemory };
+
+    fn from(_: AllocError) -> WireError {
+        WireError::OutOfMemory
+    }
+}
+
+/// The JSON value of a line. Its only errors are `BadJson` and `OutOfMemory`.
+pub(crate) fn read_value(alloc: Global, line: &[u8]) -> Result<Value, WireError>
     ensures value { IfOk result (λ v. reading line.now ≡ Some (view v)) }
     ensures bad_json { IsErrOf result WireError.BadJson → reading line.now ≡ None }
+    ensures built { ¬ IsErrOf result WireError.NotBuilt }
 {
     let Ok(text) = str::from_utf8(line) else {
         return Err(WireError::BadJson);

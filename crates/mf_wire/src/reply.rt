@@ -1,18 +1,33 @@
 ghost use Rattle.std.specs.Prelude.{◌≡◌, IfOk, encode_utf8_all};
 ghost use Rattle.serde_json.specs.View.{view};
-ghost use Rattle.mf_wire.specs.Replies.{reply_data, reply_line as line_of, error_data};
+ghost use Rattle.mf_wire.specs.Replies.{error_data, formatted_data, op_name as op_text, part_data, parts_data, reply_data, reply_line as line_of, string_data};
 
+use mf_locale::Tag;
+use mf_parts::{Part, Parts, joined};
 use mf_text::Text;
 use serde_json::{Value, json};
 use std::alloc::{AllocError, Global};
 
+/// What a publication changed.
+#[derive(Clone, Copy, Debug, PartialEq, Eq)]
+pub enum Op {
+    /// A catalogue of messages.
+    Publish,
+}
+
 /// The answer to a request.
-#[derive(Debug, PartialEq, Eq, Drop)]
+#[derive(Debug, Drop)]
 pub enum Reply {
+    /// The publication is this edition.
+    Accepted { edition: u64, op: Op },
+    /// The message of this edition that stands under this tag, formatted.
+    Formatted { edition: u64, tag: Tag, parts: Parts },
     /// The line is no JSON.
     BadJson,
     /// The line is JSON, and asks for what isn't built yet.
     NotBuilt,
+    /// No tag of the chain has the id in this edition.
+    NoMessage { edition: u64 },
 }
 
 /// The line of a request that found no memory.
@@ -32,8 +47,20 @@ fn reply_value(alloc: Global, reply: &Reply) -> Result<Value, AllocError>
     ensures { IfOk result (λ v. view v ≡ reply_data reply.now) }
 {
     match reply {
+        Reply::Accepted { edition, op } => json!(in alloc; {"edition": *edition, "ok": op_name(*op)}),
+        Reply::Formatted { edition, tag, parts } => formatted_value(alloc, *edition, tag, parts),
         Reply::BadJson => error_value(alloc, "bad-json"),
         Reply::NotBuilt => error_value(alloc, "not-built"),
+        Reply::NoMessage { edition } => json!(in alloc; {"edition": *edition, "error": "no-message"}),
+    }
+}
+
+/// The name of a publication's kind.
+fn op_name(op: Op) -> &'static str
+    ensures { result.now ≡ op_text op }
+{
+    match op {
+        Op::Publish => "publish",
     }
 }
 
@@ -42,4 +69,60 @@ fn error_value(alloc: Global, name: &str) -> Result<Value, AllocError>
     ensures { IfOk result (λ v. view v ≡ error_data name.now) }
 {
     json!(in alloc; {"error": name})
+}
+
+/// The object of a formatted message.
+fn formatted_value(alloc: Global, edition: u64, tag: &Tag, parts: &Parts) -> Result<Value, AllocError>
+    ensures { IfOk result (λ v. view v ≡ formatted_data edition tag.now parts.now) }
+{
+    let text = joined(alloc, parts)?;
+    let parts = parts_value(alloc, parts)?;
+    json!(in alloc; {
+        "edition": edition,
+        "errors": [],
+        "locale": tag.as_text().as_str(),
+        "ok": "format",
+        "parts": parts,
+        "text": text.as_str()
+    })
+}
+
+/// The objects of parts.
+fn parts_value(alloc: Global, parts: &Parts) -> Result<Value, AllocError>
+    ensures { IfOk result (λ v. view v ≡ parts_data parts.now) }
+{
+    let mut values = Vec::new(alloc);
+    for part in parts.as_slice() {
+        values.push(part_value(alloc, part)?)?;
+    }
+    Ok(Value::Array(values))
+}
+
+/// The object of a part.
+fn part_value(alloc: Global, part: &Part) -> Result<Value, AllocError>
+    ensures { IfOk result (λ v. view v ≡ part_data part.now) }
+{
+    match part {
+        Part::Text(text) => json!(in alloc; {"kind": "text", "value": text.as_str()}),
+        Part::Isolate(mark) => isolate_value(alloc, *mark),
+        Part::String { value, id, .. } => string_value(alloc, id, value),
+    }
+}
+
+/// The object of a mark.
+fn isolate_value(alloc: Global, mark: char) -> Result<Value, AllocError>
+    ensures { IfOk result (λ v. view v ≡ part_data (Part.Isolate mark)) }
+{
+    let mark = mark.to_string(alloc)?;
+    json!(in alloc; {"kind": "isolate", "value": mark.as_str()})
+}
+
+/// The object of a string.
+fn string_value(alloc: Global, id: &Option<Text>, value: &Text) -> Result<Value, AllocError>
+    ensures { IfOk result (λ v. view v ≡ string_data id.now value.now) }
+{
+    match id {
+        Some(id) => json!(in alloc; {"id": id.as_str(), "kind": "string", "value": value.as_str()}),
+        None => json!(in alloc; {"kind": "string", "value": value.as_str()}),
+    }
 }

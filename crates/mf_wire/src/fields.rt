@@ -1,0 +1,143 @@
+ghost use Rattle.std.specs.Prelude.{◌≡◌, [], IfOk, chars};
+ghost use Rattle.std.specs.Option.{option_copied};
+ghost use Rattle.serde_json.specs.Find.{get};
+ghost use Rattle.serde_json.specs.View.{view, members_view};
+ghost use Rattle.mf_wire.specs.Fields as fields;
+
+use mf_locale::{LocaleError, Tag, read_tag};
+use mf_text::{Argued, Arguments, Pair, Pairs, Text};
+use serde_json::{Map, Value};
+use std::alloc::{AllocError, Global};
+
+/// The most messages that a catalogue may have.
+const MOST_MESSAGES: usize = 4096;
+
+/// The most bytes that an id may have.
+const LONGEST_ID: usize = 256;
+
+/// A field that is a text.
+pub(crate) fn string_field<'v>(object: &'v Value, name: &str) -> Option<&'v str>
+    ensures { option_copied result ≡ fields.string_field name.now (view object.now) }
+{
+    object.get(name).and_then(Value::as_str)
+}
+
+/// A field that is a tag.
+pub(crate) fn tag_field(alloc: Global, object: &Value, name: &str) -> Result<Option<Tag>, AllocError>
+    ensures { IfOk result (λ tag. tag ≡ fields.tag_field name.now (view object.now)) }
+{
+    let Some(text) = string_field(object, name) else {
+        return Ok(None);
+    };
+    match read_tag(alloc, text) {
+        Ok(tag) => Ok(Some(tag)),
+        Err(LocaleError::BadTag) => Ok(None),
+        Err(LocaleError::OutOfMemory) => Err(AllocError),
+    }
+}
+
+/// A field that is a catalogue.
+pub(crate) fn catalogue_field(alloc: Global, object: &Value, name: &str) -> Result<Option<Pairs>, AllocError>
+    ensures { IfOk result (λ messages. messages ≡ fields.catalogue_field name.now (view object.now)) }
+{
+    let Some(members) = object.get(name).and_then(Value::as_object) else {
+        return Ok(None);
+    };
+    catalogue(alloc, members)
+}
+
+/// The catalogue that an object is.
+fn catalogue(alloc: Global, members: &Map<String, Value>) -> Result<Option<Pairs>, AllocError>
+    ensures { IfOk result (λ messages. messages ≡ fields.catalogue_from (members_view members.now.entries)) }
+{
+    if is_catalogue_size(members.len()) {
+        messages(alloc, members)
+    } else {
+        Ok(None)
+    }
+}
+
+/// Whether a catalogue may have so many messages.
+fn is_catalogue_size(count: usize) -> bool
+    ensures { result ≡ fields.is_catalogue_size count }
+{
+    count >= 1 && count <= MOST_MESSAGES
+}
+
+/// The messages of a catalogue.
+fn messages(alloc: Global, members: &Map<String, Value>) -> Result<Option<Pairs>, AllocError>
+    ensures { IfOk result (λ messages. messages ≡ fields.messages_from (members_view members.now.entries)) }
+{
+    let mut messages = Pairs::new(alloc);
+    for (id, source) in members {
+        let Some(message) = message(alloc, id.as_str(), source)? else {
+            return Ok(None);
+        };
+        messages.push(message)?;
+    }
+    Ok(Some(messages))
+}
+
+/// A message of a catalogue.
+fn message(alloc: Global, id: &str, source: &Value) -> Result<Option<Pair>, AllocError>
+    ensures { IfOk result (λ message. message ≡ fields.message_from id.now (view source.now)) }
+{
+    if id.is_empty() || id.len() > LONGEST_ID {
+        return Ok(None);
+    }
+    let Some(source) = source.as_str() else {
+        return Ok(None);
+    };
+    let name = Text::of(alloc, id)?;
+    let value = Text::of(alloc, source)?;
+    Ok(Some(Pair { name, value }))
+}
+
+/// The arguments of a field.
+pub(crate) fn arguments_field(alloc: Global, object: &Value, name: &str) -> Result<Option<Arguments>, AllocError>
+    ensures { IfOk result (λ arguments. arguments ≡ fields.arguments_of (get name.now (view object.now))) }
+{
+    let Some(value) = object.get(name) else {
+        return Ok(Some(Arguments::new(alloc)));
+    };
+    let Some(members) = value.as_object() else {
+        return Ok(None);
+    };
+    arguments(alloc, members)
+}
+
+/// The arguments of an object.
+fn arguments(alloc: Global, members: &Map<String, Value>) -> Result<Option<Arguments>, AllocError>
+    ensures { IfOk result (λ arguments. arguments ≡ fields.arguments_from (members_view members.now.entries) []) }
+{
+    let mut arguments = Arguments::new(alloc);
+    for (name, value) in members {
+        let Some((name, value)) = argument(alloc, name.as_str(), value)? else {
+            return Ok(None);
+        };
+        arguments.set(name, value)?;
+    }
+    Ok(Some(arguments))
+}
+
+/// An argument.
+fn argument(alloc: Global, name: &str, value: &Value) -> Result<Option<(Text, Argued)>, AllocError>
+    ensures { IfOk result (λ argument. argument ≡ fields.argument_from name.now (view value.now)) }
+{
+    if !is_ascii(name) {
+        return Ok(None);
+    }
+    let Some(text) = value.as_str() else {
+        return Ok(None);
+    };
+    let name = Text::of(alloc, name)?;
+    let text = Text::of(alloc, text)?;
+    Ok(Some((name, Argued::Text(text))))
+}
+
+/// Whether a text has ASCII characters alone.
+fn is_ascii(text: &str) -> bool
+    ensures { result ≡ fields.is_ascii text.now }
+{
+    text.bytes().all(|byte| byte < 128)
+}
