@@ -1,1 +1,3 @@
+pub mod Answering
+pub mod Editions
 pub mod Serving

@@ -1,26 +1,46 @@
 -- Lines answered one after the other.
-use Rattle.std.specs.Prelude.{◌≡◌, ◌⊎◌, ℕ, List, [], ◌∷◌, MatchOption}
-use Rattle.mf_wire.specs.Reading.{reading}
+use Rattle.std.specs.Prelude.{◌≡◌, ◌⊎◌, ◌+◌, ℕ, List, [], ◌∷◌, ◌++◌, length, MatchBool, MatchResult}
+use Rattle.mf_edition.specs.declared.change.Change.{Change}
+use Rattle.mf_edition.specs.declared.change.Entry.{Entry}
 use Rattle.mf_wire.specs.Replies.{reply_line, memory_line}
+use Rattle.mf_wire.specs.Requests.{request_of}
+use Rattle.mf_wire.specs.declared.reply.Op.TheVariants as op
 use Rattle.mf_wire.specs.declared.reply.Reply.{Reply}
-use Rattle.mf_wire.specs.declared.reply.Reply.TheVariants.{BadJson, NotBuilt}
+use Rattle.mf_wire.specs.declared.reply.Reply.TheVariants.{Accepted, NotBuilt}
+use Rattle.mf_wire.specs.declared.request.Request.{Request}
+use Rattle.mf_wire.specs.declared.request.Request.TheVariants.{Publish, Format}
+use Rattle.mf2d.specs.Answers.{answer, is_flat_change}
 
--- what is known between two lines: nothing yet
+-- what is known between two lines: the log of the publications that were accepted
 abbrev pub Desk : Type 0
-Desk = Unit {0}
+Desk = List Entry
 
 -- the desk that a run opens with
 abbrev pub empty_desk : Desk
-empty_desk = tt
+empty_desk = []
 
 -- this reply, and the desk stays as it was
-abbrev pub Refuses : Reply → Desk → List ℕ → Desk → Type 0
-Refuses refusal desk reply after = (reply ≡ reply_line refusal) × (after ≡ desk)
+abbrev pub Replies : Reply → Desk → List ℕ → Desk → Type 0
+Replies answer desk reply after = (reply ≡ reply_line answer) × (after ≡ desk)
+
+-- the next entry of the one caller of a desk, who has number 0
+abbrev pub next_entry : Desk → Change → Entry
+next_entry desk change = record { caller = 0; nth = length desk + 1; change = change }
+
+-- the publication is the next edition, and its entry stands at the end of the log
+abbrev pub Accepts : Change → Desk → List ℕ → Desk → Type 0
+Accepts change desk reply after =
+    (reply ≡ reply_line (Accepted (length desk + 1) op.Publish)) × (after ≡ desk ++ next_entry desk change ∷ [])
+
+-- the defined reply to a request, and the desk after it
+abbrev pub RequestAnswered : Request → Desk → List ℕ → Desk → Type 0
+RequestAnswered (Publish change) desk reply after = MatchBool (is_flat_change change) (Accepts change desk reply after) (Replies NotBuilt desk reply after)
+RequestAnswered (Format tag id arguments) desk reply after = Replies (answer desk (length desk) tag id arguments) desk reply after
 
 -- the defined reply to a line, and the desk after it
 abbrev pub LineAnswered : Desk → List ℕ → List ℕ → Desk → Type 0
 LineAnswered desk line reply after =
-    MatchOption (reading line) (Refuses BadJson desk reply after) (λ _. Refuses NotBuilt desk reply after)
+    MatchResult (request_of line) (λ request. RequestAnswered request desk reply after) (λ refusal. Replies refusal desk reply after)
 
 -- the same, or the memory line, which a line that found no memory gets, and which changes nothing
 abbrev pub Answered : Desk → List ℕ → List ℕ → Desk → Type 0

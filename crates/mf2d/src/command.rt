@@ -5,6 +5,7 @@ ghost use Rattle.mf_io.specs.Known.{ConsumesJust, ConsumesAtMost};
 ghost use Rattle.mf2d.specs.Commands.{command_of, command_named};
 ghost use Rattle.mf2d.specs.Transcripts.{IsAnswered, IsAnsweredInPart};
 
+use crate::desk::Desk;
 use crate::pipe::answer_lines;
 use mf_io::{Failed, GatherError, Sink, Source, Status, gather};
 use mf_text::Texts;
@@ -74,8 +75,11 @@ pub fn top<S: Source, K: Sink>(alloc: Global, words: &Texts, source: &mut S, sin
     let Some(Command::Pipe) = read_command(words) else {
         return Status::Usage;
     };
+    let Ok(desk) = Desk::new(alloc) else {
+        return Status::OutOfMemory;
+    };
     match gather(alloc, source, PIPE_CAP) {
-        Ok(input) => match answer_lines(alloc, &input, sink) {
+        Ok(input) => match answer_lines(alloc, desk, &input, sink) {
             Ok(()) => Status::Ended,
             Err(Failed) => Status::WriteFault,
         },

@@ -1,29 +1,46 @@
-ghost use Rattle.std.specs.Prelude.{◌≡◌, IfOk, OnErr, encode_utf8_all};
-ghost use Rattle.mf2d.specs.Served.{LineAnswered, empty_desk};
+ghost use Rattle.std.specs.Prelude.{◌≡◌, IfOk, OnErr, encode_utf8_all, length};
+ghost use Rattle.mf_wire.specs.Replies.{reply_line as line_of};
+ghost use Rattle.mf2d.specs.Answers.{answer as answered};
+ghost use Rattle.mf2d.specs.Served.{LineAnswered, RequestAnswered, empty_desk};
 
-use mf_text::Text;
-use mf_wire::{Reply, WireError, read_value, reply_line};
+use crate::answer::answer;
+use crate::flat::is_flat;
+use mf_edition::{Change, Edition, Entry, Log, PublishError};
+use mf_locale::Tag;
+use mf_text::{Arguments, Text};
+use mf_wire::{Op, Reply, Request, WireError, read_request, reply_line};
 use std::alloc::{AllocError, Global};
 use std::marker::Model;
 
-/// What is kept from one line to the next.
+/// What is kept from one line to the next: the log, and its newest edition.
 #[derive(Drop)]
-pub struct Desk {}
+pub struct Desk {
+    log: Log,
+    newest: Edition,
+}
 
 impl Model for Desk {
+    ghost use Rattle.std.specs.Prelude.{◌≡◌, length};
+    ghost use Rattle.mf_edition.specs.Edition.{edition_of};
     ghost use Rattle.mf2d.specs.Served.{Desk as Known};
 
     ghost Value = { Known };
 
-    ghost view = { λ _. tt };
+    ghost view = { λ d. d.log };
+
+    ghost invariant = { λ d. d.newest ≡ edition_of d.log (length d.log) };
 }
 
 impl Desk {
-    /// A desk at which no line was answered.
-    pub fn new() -> Desk
-        ensures { result ≡ empty_desk }
+    /// A desk at which nothing was published.
+    pub fn new(alloc: Global) -> Result<Desk, AllocError>
+        ensures { IfOk result (λ desk. desk ≡ empty_desk) }
     {
-        Desk {}
+        let newest = Edition::empty(alloc)?;
+        Ok(Desk {
+            log: Log::new(alloc),
+            newest,
+        })
     }
 
     /// The reply line to a line, without its line feed. Where there is no memory for it, nothing has changed.
@@ -31,11 +48,54 @@ impl Desk {
         ensures ok { IfOk result (λ reply. LineAnswered self.old line.now (encode_utf8_all reply) self.new) }
         ensures err { OnErr result (self.new ≡ self.old) }
     {
-        let reply = match read_value(alloc, line) {
-            Ok(_) => Reply::NotBuilt,
-            Err(WireError::BadJson) => Reply::BadJson,
-            Err(WireError::OutOfMemory) => return Err(AllocError),
+        match read_request(alloc, line) {
+            Ok(Request::Publish(change)) => self.publish(alloc, change),
+            Ok(Request::Format { tag, id, arguments }) => self.format(alloc, &tag, &id, &arguments),
+            Err(WireError::BadJson) => reply_line(alloc, &Reply::BadJson),
+            Err(WireError::NotBuilt) => reply_line(alloc, &Reply::NotBuilt),
+            Err(WireError::OutOfMemory) => Err(AllocError),
+        }
+    }
+
+    /// Publishes a change whose sources are all flat, and gives the reply line. The line is made first, so that
+    /// nothing has changed where there is no memory.
+    fn publish(&mut self, alloc: Global, change: Change) -> Result<Text, AllocError>
+        ensures ok { IfOk result (λ reply. RequestAnswered (Request.Publish change) self.old (encode_utf8_all reply) self.new) }
+        ensures err { OnErr result (self.new ≡ self.old) }
+    {
+        if !is_flat(alloc, &change)? {
+            return reply_line(alloc, &Reply::NotBuilt);
+        }
+        if !self.newest.has_room(&change) {
+            return Err(AllocError);
+        }
+        let newest = self.newest.next(&change)?;
+        let number = newest.number();
+        let reply = reply_line(
+            alloc,
+            &Reply::Accepted {
+                edition: number,
+                op: Op::Publish,
+            },
+        )?;
+        let entry = Entry {
+            caller: 0,
+            nth: number,
+            change,
         };
+        if let Err(PublishError::OutOfMemory) = self.log.push(entry) {
+            return Err(AllocError);
+        }
+        self.newest = newest;
+        Ok(reply)
+    }
+
+    /// The reply line to a request for a sentence.
+    fn format(&self, alloc: Global, tag: &Tag, id: &Text, arguments: &Arguments) -> Result<Text, AllocError>
+        ensures { IfOk result (λ line. encode_utf8_all line
+            ≡ line_of (answered self.now (length self.now) tag.now id.now arguments.now)) }
+    {
+        let reply = answer(alloc, &self.newest, tag, id, arguments)?;
         reply_line(alloc, &reply)
     }
 }

@@ -1,8 +1,10 @@
 //! The commands of `mf2d`, a formatting server for Unicode MessageFormat 2.0, over any source and sink.
 #![tactic(auto)]
 
+mod answer;
 mod command;
 mod desk;
+mod flat;
 mod pipe;
 
 pub use command::{Command, PIPE_CAP, top};

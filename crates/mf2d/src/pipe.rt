@@ -2,6 +2,7 @@ ghost use Rattle.std.specs.Prelude.{◌≡◌, ℕ, OnOk, OnErr};
 ghost use Rattle.std.specs.Io.KnownBytes.{Appends};
 ghost use Rattle.mf_io.specs.Faults.{HasCause};
 ghost use Rattle.mf_io.specs.Known.{TakesFront};
+ghost use Rattle.mf2d.specs.Served.{empty_desk};
 ghost use Rattle.mf2d.specs.Transcripts.{ended, RepliesWhole, RepliesInPart, AnswersAll, AnswersFront};
 
 use crate::desk::Desk;
@@ -10,12 +11,18 @@ use mf_wire::{MEMORY_LINE, first_line};
 use std::alloc::Global;
 
 /// Answers each line of the input in order.
-pub fn answer_lines<K: Sink>(alloc: Global, input: &[u8], sink: &mut K) -> Result<(), Failed>
+pub fn answer_lines<K: Sink>(
+    alloc: Global,
+    desk: Desk,
+    input: &[u8],
+    sink: &mut K,
+) -> Result<(), Failed>
+    requires { desk ≡ empty_desk }
     ensures all { OnOk result (AnswersAll (K.taken sink.old) (K.taken sink.new) input.now) }
     ensures front { OnErr result (AnswersFront (K.taken sink.old) (K.taken sink.new) input.now) }
     ensures cause { HasCause (K.faults sink.old) (K.faults sink.new) result }
 {
-    let mut desk = Desk::new();
+    let mut desk = desk;
     let mut rest = input;
     while !rest.is_empty() {
         let (line, others) = first_line(rest);

@@ -10,7 +10,7 @@ use std::alloc::{AllocError, Global};
 use std::marker::Model;
 
 /// A language tag with its letters in lower case, seen as the list of its characters.
-#[derive(Clone, Debug, PartialEq, Eq, PartialOrd, Ord, Drop)]
+#[derive(Debug, PartialEq, Eq, PartialOrd, Ord, Drop)]
 pub struct Tag {
     text: Text,
 }
@@ -56,6 +56,15 @@ impl Tag {
         };
         let text = Text::of(alloc, &text[..hyphen])?;
         Ok(Some(Tag { text }))
+    }
+}
+
+impl Clone for Tag {
+    ghost is_clone = { λ s t. t ≡ s };
+
+    fn clone(&self) -> Result<Tag, AllocError> {
+        let text = self.text.clone()?;
+        Ok(Tag { text })
     }
 }
 

@@ -15,7 +15,7 @@ always (Err error) = tt
 
 pub loop-rest-init : goal.loop-rest-init
 loop-rest-init g c = record {
-  serving = start (g.K.Sink.taken c.args.sink.now) c.args.input.now c.new-desk.result c.new-desk.ensures;
+  serving = start (g.K.Sink.taken c.args.sink.now) c.args.input.now c.args.desk c.requires;
   count = omega arith;
 }
 

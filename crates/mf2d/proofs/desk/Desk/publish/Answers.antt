@@ -1,0 +1,56 @@
+use Rattle.std.proofs.Common.{◌≡◌, ◌∙◌, ℕ, ◌+◌, true, List, [], ◌∷◌, ◌++◌, length, encode_utf8_all, ap, sym, subst}
+use Rattle.std.specs.Bool.{MatchBool}
+use Rattle.mf_edition.specs.Edition.{EditionState, edition_of, next_edition}
+use Rattle.mf_edition.specs.declared.change.Change.{Change}
+use Rattle.mf_edition.specs.declared.change.Entry.{Entry}
+use Rattle.mf_wire.specs.Replies.{reply_line}
+use Rattle.mf_wire.specs.declared.reply.Op.TheVariants as op
+use Rattle.mf_wire.specs.declared.reply.Reply.TheVariants.{Accepted, NotBuilt}
+use Rattle.mf2d.proofs.Editions.{newest-push, newest-number}
+use Rattle.mf2d.specs.Answers.{is_flat_change}
+use Rattle.mf2d.specs.Served.{Desk, Accepts, Replies, next_entry}
+use Rattle.mf2d.proofs.desk.Desk.publish.Goals as goal
+
+-- the edition after the newest one is the newest of the log with the entry
+still_newest : (log after : Desk) (old new : EditionState) (entry : Entry) → old ≡ edition_of log (length log) → new ≡ next_edition old entry.change
+    → after ≡ log ++ entry ∷ [] → new ≡ edition_of after (length after)
+still_newest log after old new entry was next pushed =
+    next ∙ ap (λ edition. next_edition edition entry.change) was ∙ sym (newest-push log entry) ∙ ap (λ l. edition_of l (length l)) (sym pushed)
+
+-- its number is one more than the entries
+next_number : (log : Desk) (old new : EditionState) (change : Change) (number : ℕ) → old ≡ edition_of log (length log) → new ≡ next_edition old change
+    → number ≡ new.number → number ≡ length log + 1
+next_number log old new change number was next is =
+    is ∙ ap (λ (edition : EditionState). edition.number) next
+    ∙ ap (λ (edition : EditionState). edition.number + 1) was ∙ ap (λ n. n + 1) (newest-number log)
+
+accepted : (log after desk : Desk) (change : Change) (number : ℕ) (reply : List ℕ) → log ≡ desk → number ≡ length log + 1
+    → reply ≡ reply_line (Accepted number op.Publish) → after ≡ log ++ record { caller = 0; nth = number; change = change } ∷ []
+    → Accepts change desk reply after
+accepted log after desk change number reply same is line pushed = (
+    line ∙ ap (λ n. reply_line (Accepted n op.Publish)) (is ∙ ap (λ l. length l + 1) same),
+    pushed
+    ∙ ap (λ l. l ++ record { caller = 0; nth = number; change = change } ∷ []) same
+    ∙ ap (λ n. desk ++ record { caller = 0; nth = n; change = change } ∷ []) (is ∙ ap (λ l. length l + 1) same),
+  )
+
+pub invariant_of-self-2 : goal.invariant_of-self-2
+invariant_of-self-2 c =
+    still_newest c.self.inside.log c.push.new.self c.self.inside.newest c.in_ok-newest.newest
+        (record { caller = 0; nth = c.number-number.result; change = c.args.change })
+        c.self.invariant c.in_ok-newest.ensures c.in_default.ensures.ok
+
+pub returns-clause-ok : goal.returns-clause-ok
+returns-clause-ok c =
+    let log = c.self.inside.log in
+    let number = c.number-number.result in
+    let desk = c.args.self.now in
+    let reply = encode_utf8_all c.in_ok-reply.reply in
+    let after = c.push.new.self in
+    let change = c.args.change in
+    let so : Accepts change desk reply after =
+        accepted log after desk change number reply c.self.view_is
+            (next_number log c.self.inside.newest c.in_ok-newest.newest change number c.self.invariant c.in_ok-newest.ensures c.number-number.ensures)
+            c.in_ok-reply.ensures c.in_default.ensures.ok in
+    subst (λ test. MatchBool test (Accepts change desk reply after) (Replies NotBuilt desk reply after))
+        (sym c.if-not-branch.false ∙ c.in_ok-is_flat.ensures) so

@@ -1,0 +1,6 @@
+pub mod Ordered
+pub mod Placed
+pub mod Searched
+pub mod Pushed
+pub mod Growth
+pub mod EditionLaws

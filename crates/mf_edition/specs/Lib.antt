@@ -1,0 +1,5 @@
+pub mod Edition
+pub mod Messages
+pub mod Views
+pub mod Order
+pub mod Kept

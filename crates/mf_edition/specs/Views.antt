@@ -1,0 +1,17 @@
+-- What the program's own collections hold, as the lists that the definitions speak of.
+use Rattle.std.specs.Prelude.{ℕ, List}
+use Rattle.std.specs.Borrow.{Bor}
+use Rattle.std.specs.Prelude.{map}
+use Rattle.std.specs.Arc.{arc_value}
+use Rattle.std.specs.declared.sync.Arc.{Arc}
+use Rattle.std.specs.declared.alloc.Global.{Global}
+use Rattle.mf_text.specs.declared.pair.Pair.{Pair}
+use Rattle.mf_edition.specs.declared.item.Item.{Item}
+
+-- an id and its source as a message
+abbrev pub entry_pair : Bor (List ℕ) × Bor (List ℕ) → Pair
+entry_pair entry = record { name = entry.0.now; value = entry.1.now }
+
+-- the messages that shared ones are
+abbrev pub item_values : List (Arc Item Global) → List Item
+item_values items = map arc_value items

@@ -1,0 +1,118 @@
+ghost use Rattle.std.specs.Prelude.{◌≡◌, ◌↔◌, ◌+◌, ◌<◌, ◌^◌, length, position, slice_get, IfOk, IsTrue};
+ghost use Rattle.std.specs.Option.{option_copied};
+ghost use Rattle.mf_edition.specs.Edition.{empty_edition, is_named, message_count, next_edition, put_all, HasRoom};
+ghost use Rattle.mf_edition.specs.Messages.{in_byte_order};
+
+use crate::order::{place_of, put_messages};
+use crate::publication::sources_by_id;
+use crate::{Change, Item};
+use mf_locale::Tag;
+use mf_text::{Pair, Text};
+use std::alloc::{AllocError, Global};
+use std::marker::Model;
+use std::sync::Arc;
+
+/// One more than the most messages that an edition may have.
+const TOO_MANY: usize = 1 << 32;
+
+/// The messages after so many changes, seen as the number of changes and the list of the messages.
+#[derive(Debug, Drop)]
+pub struct Edition {
+    alloc: Global,
+    number: u64,
+    items: Vec<Arc<Item>>,
+    order: Vec<u32>,
+}
+
+impl Model for Edition {
+    ghost use Rattle.mf_edition.specs.Edition.{EditionState};
+    ghost use Rattle.mf_edition.specs.Kept.{state_of, IsKept};
+
+    ghost Value = { EditionState };
+
+    ghost view = { λ e. state_of e.number e.items.items };
+
+    ghost invariant = { λ e. IsKept e.items.items e.order.items };
+}
+
+impl Edition {
+    /// Edition 0, which has no messages.
+    pub fn empty(alloc: Global) -> Result<Edition, AllocError>
+        ensures { IfOk result (λ edition. edition ≡ empty_edition) }
+    {
+        Ok(Edition {
+            alloc,
+            number: 0,
+            items: Vec::new(alloc),
+            order: Vec::new(alloc),
+        })
+    }
+
+    /// The edition after one more change. It shares each message that the change leaves as it is.
+    pub fn next(&self, change: &Change) -> Result<Edition, AllocError>
+        requires { HasRoom self.now change.now }
+        ensures { IfOk result (λ edition. edition ≡ next_edition self.now change.now) }
+    {
+        match change {
+            Change::Catalogue { tag, messages } => self.with_messages(tag, messages.as_slice()),
+        }
+    }
+
+    /// The edition after a publication of messages.
+    fn with_messages(&self, tag: &Tag, messages: &[Pair]) -> Result<Edition, AllocError>
+        requires few { length (put_all self.now.items tag.now (in_byte_order messages.now)) < 2 ^ 32 }
+        requires number { self.now.number + 1 < 2 ^ 64 }
+        ensures number { IfOk result (λ edition. edition.number ≡ self.now.number + 1) }
+        ensures items { IfOk result (λ edition. edition.items ≡ put_all self.now.items tag.now (in_byte_order messages.now)) }
+    {
+        let sources = sources_by_id(self.alloc, messages)?;
+        let mut items = self.items.clone()?;
+        let mut order = self.order.clone()?;
+        put_messages(self.alloc, &mut items, &mut order, tag, &sources)?;
+        Ok(Edition {
+            alloc: self.alloc,
+            number: self.number + 1,
+            items,
+            order,
+        })
+    }
+
+    /// Whether there surely are numbers for one more edition and for each message of its change.
+    pub fn has_room(&self, change: &Change) -> bool
+        ensures exact { IsTrue result ↔ ((length self.now.items + message_count change.now < 2 ^ 32) × (self.now.number + 1 < 2 ^ 64)) }
+        ensures room { IsTrue result → HasRoom self.now change.now }
+    {
+        change.message_count() < TOO_MANY - self.items.len() && self.number < u64::MAX
+    }
+
+    /// The number of changes that made it.
+    pub fn number(&self) -> u64
+        ensures { result ≡ self.now.number }
+    {
+        self.number
+    }
+
+    /// The number of its messages.
+    pub fn len(&self) -> u32
+        ensures { result ≡ length self.now.items }
+    {
+        self.items.len() as u32
+    }
+
+    /// The message at a place, counted from 0, if there is such a place.
+    pub fn item(&self, index: u32) -> Option<&Item>
+        ensures { option_copied result ≡ slice_get self.now.items index }
+    {
+        match self.items.get(index as usize) {
+            Some(item) => Some(item),
+            None => None,
+        }
+    }
+
+    /// The place of the message of a tag and an id, if there is one.
+    pub fn find(&self, tag: &Tag, id: &Text) -> Option<u32>
+        ensures { result ≡ position (is_named tag.now id.now) self.now.items }
+    {
+        place_of(&self.items, &self.order, tag, id)
+    }
+}

@@ -1,0 +1,19 @@
+//! The log of changes, and the editions of the messages that it makes.
+#![tactic(auto)]
+
+mod change;
+mod edition;
+mod item;
+mod laws;
+mod log;
+mod order;
+mod publication;
+
+pub use change::{Change, Entry};
+pub use edition::Edition;
+pub use item::Item;
+pub use laws::{changes_are_bounded, editions_are_numbered, editions_follow, editions_have_distinct_names, editions_stay};
+pub use log::{Log, PublishError};
+
+#[cfg(test)]
+mod tests;
