@@ -1,16 +1,14 @@
 -- Look-ups and parts, one member of a list after the other.
-use Rattle.std.proofs.Common.{◌≡◌, ◌∙◌, ℕ, suc, ◌+◌, ◌<◌, ◌≤◌, Bool, true, false, cond, List, [], ◌∷◌, ◌++◌, length, drop, get_or, Option, Some, None, refl, ap, sym, subst, append_assoc, add-one, arith, is_some}
+use Rattle.std.proofs.Common.{◌≡◌, ◌∙◌, ℕ, suc, ◌+◌, ◌<◌, Bool, true, false, cond, List, [], ◌∷◌, ◌++◌, length, drop, get_or, Option, Some, None, refl, ap, sym, append_assoc, add-one}
 use Rattle.std.proofs.Math.Seq.{drop-cons}
 use Rattle.std.proofs.lemmas.Bool.{ltb-false}
 use Rattle.std.proofs.lemmas.List.{append-nil}
 use Rattle.std.proofs.lemmas.Option.{slice_get_past}
 use Rattle.std.proofs.lemmas.List.Folds.{find_at}
-use Rattle.std.specs.List.{find, position, position_or_len, slice_get, list_all}
+use Rattle.std.specs.List.{find, position, position_or_len, slice_get}
 use Rattle.std.specs.Option.{option_map, option_and_then}
 use Rattle.mf_text.specs.declared.arguments.Argued.{Argued}
 use Rattle.mf_text.specs.declared.direction.Direction.TheVariants.{Ltr}
-use Rattle.mf_text.specs.declared.pair.Pair.{Pair}
-use Rattle.mf_parse.specs.Reading.{flat_pieces}
 use Rattle.mf_parse.specs.declared.piece.FlatPiece.{FlatPiece}
 use Rattle.mf_parts.specs.Isolation.{isolated_part}
 use Rattle.mf_parts.specs.declared.part.Part.{Part}
@@ -60,7 +58,7 @@ pub parts-more : (arguments : List (List ℕ × Argued)) (all : Option (List Par
 parts-more arguments all done next piece more part so_far is then =
     so_far
     ∙ ap (λ (found : Option Part). option_map (λ parts. done ++ parts)
-            (option_and_then (λ first. option_map (λ parts. isolated_part Ltr first ++ parts) (parts_of arguments more)) found)) (sym is)
+    (option_and_then (λ first. option_map (λ parts. isolated_part Ltr first ++ parts) (parts_of arguments more)) found)) (sym is)
     ∙ parts_joined done (isolated_part Ltr part) (parts_of arguments more)
     ∙ ap (λ (first : List Part). option_map (λ parts. first ++ parts) (parts_of arguments more)) (sym then)
 
@@ -69,8 +67,8 @@ pub parts-none : (arguments : List (List ℕ × Argued)) (all : Option (List Par
     → all ≡ option_map (λ parts. done ++ parts) (parts_of arguments (piece ∷ more)) → None ≡ piece_part arguments piece → None ≡ all
 parts-none arguments all done piece more so_far is =
     sym (so_far
-        ∙ ap (λ (found : Option Part). option_map (λ parts. done ++ parts)
-            (option_and_then (λ first. option_map (λ parts. isolated_part Ltr first ++ parts) (parts_of arguments more)) found)) (sym is))
+    ∙ ap (λ (found : Option Part). option_map (λ parts. done ++ parts)
+    (option_and_then (λ first. option_map (λ parts. isolated_part Ltr first ++ parts) (parts_of arguments more)) found)) (sym is))
 
 -- no piece is left
 pub parts-all : (all : Option (List Part)) (done : List Part) → all ≡ option_map (λ parts. done ++ parts) (Some []) → Some done ≡ all

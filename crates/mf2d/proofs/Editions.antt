@@ -1,5 +1,5 @@
 -- One more entry of a log is one more edition.
-use Rattle.std.proofs.Common.{◌≡◌, ◌∙◌, ℕ, ◌+◌, List, [], ◌∷◌, ◌++◌, length, take, refl, ap, sym, arith, length-append}
+use Rattle.std.proofs.Common.{◌≡◌, ◌∙◌, ◌+◌, List, [], ◌∷◌, ◌++◌, length, refl, ap, sym, arith}
 use Rattle.std.proofs.Math.Seq.{take-length}
 use Rattle.mf_edition.specs.Edition.{EditionState, empty_edition, next_edition, edition_after, edition_of}
 use Rattle.mf_edition.specs.declared.change.Entry.{Entry}
@@ -13,7 +13,7 @@ number-after : (edition : EditionState) (log : List Entry) → (edition_after ed
 number-after edition [] = omega arith
 number-after edition (first ∷ log) =
     let rest : (edition_after (next_edition edition first.change) log).number ≡ (edition.number + 1) + length log =
-        number-after (next_edition edition first.change) log in
+    number-after (next_edition edition first.change) log in
     omega (arith, rest)
 
 whole : (log : List Entry) → edition_of log (length log) ≡ edition_after empty_edition log

@@ -1,3 +1,4 @@
 pub mod Answering
 pub mod Editions
+pub mod OneOutput
 pub mod Serving

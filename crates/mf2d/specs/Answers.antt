@@ -1,11 +1,10 @@
 -- The answer of a log at an edition to a request for a sentence.
-use Rattle.std.specs.Prelude.{ℕ, Bool, true, false, List, [], ◌∷◌, length, nat_le, encode_utf8_all, Option, Some, None, option_map, option_and_then, is_some, ◌++◌, ◌^◌, if◌then◌else◌, find}
-use Rattle.std.specs.List.{flat_map, list_all}
+use Rattle.std.specs.Prelude.{ℕ, Bool, false, List, [], ◌∷◌, length, nat_le, encode_utf8_all, Option, Some, None, option_map, option_and_then, is_some, ◌++◌, ◌^◌, if◌then◌else◌, find}
+use Rattle.std.specs.List.{list_all}
 use Rattle.mf_text.specs.Arguments.{argument_named}
 use Rattle.mf_text.specs.declared.arguments.Argued.{Argued}
 use Rattle.mf_text.specs.declared.arguments.Argued.TheVariants as argued
 use Rattle.mf_text.specs.declared.direction.Direction.TheVariants.{Ltr, Unknown}
-use Rattle.mf_text.specs.declared.pair.Pair.{Pair}
 use Rattle.mf_locale.specs.Chain.{chain_of}
 use Rattle.mf_parse.specs.Reading.{flat_pieces}
 use Rattle.mf_parse.specs.declared.piece.FlatPiece.{FlatPiece}

@@ -58,7 +58,12 @@ fn find<'e>(edition: &'e Edition, id: &Text, tag: &Tag) -> Option<&'e Item>
 }
 
 /// The reply that formats a message.
-fn format(alloc: Global, edition: u64, item: &Item, arguments: &Arguments) -> Result<Reply, AllocError>
+fn format(
+    alloc: Global,
+    edition: u64,
+    item: &Item,
+    arguments: &Arguments,
+) -> Result<Reply, AllocError>
     ensures { IfOk result (λ reply. reply
         ≡ formatted edition item.now.tag (option_and_then (parts_of arguments.now) (flat_pieces item.now.source))) }
 {
@@ -76,7 +81,11 @@ fn format(alloc: Global, edition: u64, item: &Item, arguments: &Arguments) -> Re
 }
 
 /// The parts of a flat source, if it is flat and each of its variables has an argument.
-fn message_parts(alloc: Global, source: &Text, arguments: &Arguments) -> Result<Option<Parts>, AllocError>
+fn message_parts(
+    alloc: Global,
+    source: &Text,
+    arguments: &Arguments,
+) -> Result<Option<Parts>, AllocError>
     ensures { IfOk result (λ parts. parts ≡ option_and_then (parts_of arguments.now) (flat_pieces source.now)) }
 {
     match read_flat(alloc, source.as_str()) {
@@ -87,7 +96,11 @@ fn message_parts(alloc: Global, source: &Text, arguments: &Arguments) -> Result<
 }
 
 /// The parts of pieces, if each variable has an argument.
-fn parts(alloc: Global, pieces: &FlatPieces, arguments: &Arguments) -> Result<Option<Parts>, AllocError>
+fn parts(
+    alloc: Global,
+    pieces: &FlatPieces,
+    arguments: &Arguments,
+) -> Result<Option<Parts>, AllocError>
     ensures { IfOk result (λ parts. parts ≡ parts_of arguments.now pieces.now) }
 {
     let mut parts = Parts::new(alloc);

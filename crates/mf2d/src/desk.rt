@@ -91,7 +91,13 @@ impl Desk {
     }
 
     /// The reply line to a request for a sentence.
-    fn format(&self, alloc: Global, tag: &Tag, id: &Text, arguments: &Arguments) -> Result<Text, AllocError>
+    fn format(
+        &self,
+        alloc: Global,
+        tag: &Tag,
+        id: &Text,
+        arguments: &Arguments,
+    ) -> Result<Text, AllocError>
         ensures { IfOk result (λ line. encode_utf8_all line
             ≡ line_of (answered self.now (length self.now) tag.now id.now arguments.now)) }
     {

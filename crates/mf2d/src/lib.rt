@@ -5,9 +5,12 @@ mod answer;
 mod command;
 mod desk;
 mod flat;
+pub mod laws;
 mod pipe;
 
 pub use command::{Command, PIPE_CAP, top};
 
+#[cfg(test)]
+mod sentences;
 #[cfg(test)]
 mod tests;

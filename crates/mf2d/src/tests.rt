@@ -10,6 +10,14 @@ const BAD_JSON: &str = "{\"error\":\"bad-json\"}\n";
 
 const NOT_BUILT: &str = "{\"error\":\"not-built\"}\n";
 
+const ACCEPTED: &str = "{\"edition\":1,\"ok\":\"publish\"}\n";
+
+const HELLO_ANN: &str =
+    "{\"edition\":1,\"errors\":[],\"locale\":\"en\",\"ok\":\"format\",\"parts\":[\
+    {\"kind\":\"text\",\"value\":\"Hello \"},{\"kind\":\"isolate\",\"value\":\"\u{2068}\"},\
+    {\"kind\":\"string\",\"value\":\"Ann\"},{\"kind\":\"isolate\",\"value\":\"\u{2069}\"},\
+    {\"kind\":\"text\",\"value\":\"!\"}],\"text\":\"Hello \u{2068}Ann\u{2069}!\"}\n";
+
 /// Two requests, the second without a line feed.
 const REQUESTS: &[u8] =
     b"{\"op\":\"publish\",\"locale\":\"en\",\"messages\":{\"hi\":\"Hello {$name}!\"}}\n\
@@ -82,7 +90,7 @@ fn every_line_gets_its_reply(rt: HostRuntime) -> Result<(), Fail> {
         (b"{} \r\n 1", &[NOT_BUILT, NOT_BUILT]),
         (deep.as_bytes(), &[NOT_BUILT]),
         (too_deep.as_bytes(), &[BAD_JSON]),
-        (REQUESTS, &[NOT_BUILT, NOT_BUILT]),
+        (REQUESTS, &[ACCEPTED, HELLO_ANN]),
     ];
     for (input, replies) in rows {
         let mut expected = String::new(alloc);
@@ -126,7 +134,11 @@ fn a_fault_ends_the_run(rt: HostRuntime) -> Result<(), Fail> {
     assert!(rt; read.written.is_empty());
 
     // A write or the flush at the end fails. Each reply is two writes.
-    let rows = [(1, ""), (2, "{\"error\":\"not-built\"}"), (3, NOT_BUILT)];
+    let rows = [
+        (1, ""),
+        (2, "{\"edition\":1,\"ok\":\"publish\"}"),
+        (3, ACCEPTED),
+    ];
     for (failing, written) in rows {
         let input = pieces(alloc, REQUESTS, 10)?;
         let run = run_words(

@@ -1,14 +1,13 @@
 -- What is so of every edition of every log.
-use Rattle.std.proofs.Common.{◌≡◌, ◌==◌, ◌&&◌, ◌<◌, ◌≤◌, ◌+◌, ℕ, zero, suc, Bool, true, false, List, [], ◌∷◌, ◌++◌, length, map, take, cond, refl, ap, sym, ◌∙◌, arith, length-append, length-take, take_all}
+use Rattle.std.proofs.Common.{◌≡◌, ◌+◌, ℕ, Bool, true, false, List, [], ◌∷◌, ◌++◌, length, take, cond, refl, ap, sym, ◌∙◌, arith, length-append, length-take, take_all}
 use Rattle.std.proofs.lemmas.List.{take-append-le}
-use Rattle.std.specs.Cmp.Lexicographic.{pointwise, bytes_decides}
 use Rattle.std.specs.List.{AllByRecursion, IsDistinct}
 use Rattle.mf_text.specs.declared.pair.Pair.{Pair}
 use Rattle.mf_edition.specs.declared.change.Change.{Change}
 use Rattle.mf_edition.specs.declared.change.Change.TheVariants.{Catalogue}
 use Rattle.mf_edition.specs.declared.change.Entry.{Entry}
 use Rattle.mf_edition.specs.declared.item.Item.{Item}
-use Rattle.mf_edition.specs.Edition.{changed, edition_after, edition_of, empty_edition, is_named, is_same_name, next_edition, put, put_all, ChangesAreBounded, EditionState, EditionsAreNumbered, EditionsFollow, EditionsHaveDistinctNames, EditionsStay, HasDistinctNames}
+use Rattle.mf_edition.specs.Edition.{changed, edition_after, empty_edition, is_named, is_same_name, next_edition, put, put_all, ChangesAreBounded, EditionState, EditionsAreNumbered, EditionsFollow, EditionsHaveDistinctNames, EditionsStay, HasDistinctNames}
 use Rattle.mf_edition.specs.Messages.{in_byte_order}
 use Rattle.mf_edition.specs.Order.{name_of, names_of, Name}
 use Rattle.mf_edition.proofs.Growth.{length-changed}
@@ -28,10 +27,10 @@ HasDistinctNames-put : (items : List Item) (tag : List ℕ) (message : Pair) →
 unfolding IsDistinct Lacks
 HasDistinctNames-put [] tag message distinct = (tt, tt)
 HasDistinctNames-put (item ∷ items) tag message distinct = by (is_named tag message.name item) refl (HasDistinctNames-put items tag message distinct.1)
-    where
-      by : (b : Bool) → is_named tag message.name item ≡ b → HasDistinctNames (put items tag message) → HasDistinctNames (cond b (record item { source = message.value } ∷ items) (item ∷ put items tag message))
-      by true named rest = distinct
-      by false named rest = (Lacks-put (name_of item) items tag message distinct.0 named, rest)
+  where
+    by : (b : Bool) → is_named tag message.name item ≡ b → HasDistinctNames (put items tag message) → HasDistinctNames (cond b (record item { source = message.value } ∷ items) (item ∷ put items tag message))
+    by true named rest = distinct
+    by false named rest = (Lacks-put (name_of item) items tag message distinct.0 named, rest)
 
 HasDistinctNames-put_all : (items : List Item) (tag : List ℕ) (messages : List Pair) → HasDistinctNames items → HasDistinctNames (put_all items tag messages)
 HasDistinctNames-put_all items tag [] distinct = distinct

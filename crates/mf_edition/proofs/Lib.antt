@@ -4,3 +4,4 @@ pub mod Searched
 pub mod Pushed
 pub mod Growth
 pub mod EditionLaws
+pub mod Merged

@@ -1,5 +1,5 @@
 -- Names in order, and what stands where.
-use Rattle.std.proofs.Common.{◌≡◌, ◌==◌, ◌&&◌, ◌<◌, ◌≤◌, ◌≢◌, ◌+◌, ◌↔◌, ℕ, zero, suc, Bool, true, false, List, [], ◌∷◌, ◌++◌, length, map, get_or, set, take, refl, ap, sym, ◌∙◌, subst, cond, arith, nat_eq, nat_lt, inl, inr, ⊎_elim, Option, Some, None}
+use Rattle.std.proofs.Common.{◌≡◌, ◌&&◌, ◌<◌, ℕ, Bool, true, false, List, [], length, get_or, refl, ap, sym, ◌∙◌, subst, cond, arith, nat_eq, nat_lt, ⊎_elim, Some, None}
 use Rattle.std.proofs.lemmas.Cmp.{on_total, then_total, tied_itself}
 use Rattle.std.proofs.lemmas.Bool.{cases_lt}
 use Rattle.std.proofs.lemmas.Bool.Decides.{nat_tests}
@@ -8,13 +8,12 @@ use Rattle.std.proofs.lemmas.List.Sums.{position_or_len_is}
 use Rattle.std.specs.Cmp.{Equal-is, IsTotalOrder}
 use Rattle.std.specs.Cmp.Lexicographic.{pointwise, bytes_decides}
 use Rattle.std.specs.List.{position}
-use Rattle.std.specs.Ordering.{ordering_then, is_eq, eq_by_cmp}
+use Rattle.std.specs.Ordering.{ordering_then, is_eq}
 use Rattle.std.specs.declared.cmp.Ordering.{Ordering}
 use Rattle.std.specs.declared.cmp.Ordering.TheVariants.{Less, Equal, Greater}
 use Rattle.mf_text.specs.Order.{byte_cmp, byte_cmp_total, byte_cmp_ties}
-use Rattle.mf_text.specs.declared.pair.Pair.{Pair}
 use Rattle.mf_edition.specs.declared.item.Item.{Item}
-use Rattle.mf_edition.specs.Edition.{is_named, put}
+use Rattle.mf_edition.specs.Edition.{is_named}
 use Rattle.mf_edition.specs.Order.{name_at, name_cmp, name_of, names_of, IsFound, IsGap, IsOrder, Name}
 
 pub name_cmp_total : IsTotalOrder name_cmp

@@ -1,16 +1,16 @@
 -- What `put` does to a list of messages and to their order.
-use Rattle.std.proofs.Common.{◌≡◌, ◌&&◌, ◌<◌, ◌≤◌, ◌+◌, ◌-◌, ◌⊎◌, ℕ, zero, suc, Bool, true, false, List, [], ◌∷◌, ◌++◌, length, map, get_or, set, take, drop, refl, ap, sym, ◌∙◌, subst, cond, inl, inr, ⊎_elim, arith}
+use Rattle.std.proofs.Common.{◌≡◌, ◌<◌, ◌≤◌, ◌+◌, ◌-◌, ℕ, zero, suc, true, false, List, [], ◌∷◌, ◌++◌, length, get_or, set, refl, ap, ◌∙◌, cond, ⊎_elim, arith}
 use Rattle.std.proofs.lemmas.Bool.{cases_eq, cases_lt}
 use Rattle.std.proofs.lemmas.List.{get_or_append_left, length-append, map-append}
 use Rattle.std.proofs.lemmas.List.Edits.{length-insert, get_or-insert_above, get_or-insert_at, get_or-insert_below}
 use Rattle.std.proofs.Math.Seq.{get_or-append_seam, map-set_same}
 use Rattle.std.specs.List.{insert}
 use Rattle.std.specs.Ordering.{ordering_reverse}
-use Rattle.std.specs.declared.cmp.Ordering.TheVariants.{Less, Equal, Greater}
+use Rattle.std.specs.declared.cmp.Ordering.TheVariants.{Less, Greater}
 use Rattle.mf_text.specs.declared.pair.Pair.{Pair}
 use Rattle.mf_edition.specs.declared.item.Item.{Item}
 use Rattle.mf_edition.specs.Edition.{is_named, put}
-use Rattle.mf_edition.specs.Order.{name_at, name_cmp, name_of, names_of, IsFound, IsGap, IsOrder, Name}
+use Rattle.mf_edition.specs.Order.{name_at, name_cmp, name_of, names_of, IsGap, IsOrder, Name}
 use Rattle.mf_edition.proofs.Placed.{has_name, name_cmp_total, no_item}
 
 -- the item that a message makes
@@ -173,3 +173,16 @@ module _ (names : List Name) (order : List ℕ) (name : Name) (at : ℕ) (o : Is
   pub order_pushed : IsOrder (names ++ name ∷ []) (insert order at (length names))
   unfolding more longer
   order_pushed = record { below = all_below; ascending = in_order; complete = all_there }
+
+  -- what is below the new name, and the new name, are below each name above it
+  pub below_next : (next : Name) → name_cmp name next ≡ Less → (k : ℕ) → k ≤ at → name_cmp (name_at (names ++ name ∷ []) (get_or (insert order at (length names)) k 0)) next ≡ Less
+  unfolding more longer
+  below_next next less k within =
+      ⊎_elim
+      (λ k_before.
+      ap (λ n. name_cmp n next) (name_before k k_before)
+      ∙ name_cmp_total.trans (name_at names (get_or order k 0)) name next (gap.before k k_before) less)
+      (λ k_later.
+      let k_there : k ≡ at = omega arith in
+      ap (λ p. name_cmp (name_at more (get_or longer p 0)) next) k_there ∙ ap (λ n. name_cmp n next) name_new ∙ less)
+      (cases_lt k at)

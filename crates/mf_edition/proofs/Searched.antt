@@ -1,5 +1,5 @@
 -- What a binary search in the order finds.
-use Rattle.std.proofs.Common.{false, [], ◌≡◌, ◌<◌, ◌≤◌, ◌+◌, ℕ, List, Result, Ok, Err, Some, length, get_or, ap, sym, ◌∙◌, subst, arith}
+use Rattle.std.proofs.Common.{false, [], ◌≡◌, ◌<◌, ◌≤◌, ◌+◌, ℕ, List, Result, Ok, Err, length, get_or, ap, sym, ◌∙◌, subst, arith}
 use Rattle.std.proofs.lemmas.List.Sorted.{searchable_from_sorted}
 use Rattle.std.proofs.lemmas.List.{get_or-map, get_or_default, length-map}
 use Rattle.std.specs.Arc.{arc_value}
@@ -11,9 +11,8 @@ use Rattle.std.proofs.lemmas.Option.{slice_get-get_or, slice_get_past}
 use Rattle.std.specs.List.Sorted.{IsBinarySearchResult, IsNonDecreasingBy, IsPartitionPoint, IsSearchInRange, IsSortedBy}
 use Rattle.std.specs.Ordering.{is_lt, ordering_index, ordering_reverse}
 use Rattle.std.specs.Result.{MatchResult}
-use Rattle.std.specs.declared.cmp.Ordering.{Ordering}
 use Rattle.std.specs.declared.cmp.Ordering.TheVariants.{Less, Equal, Greater}
-use Rattle.mf_edition.specs.Order.{found_cmp, name_at, name_cmp, name_of, names_of, place_cmp, IsFound, IsGap, IsOrder, Name}
+use Rattle.mf_edition.specs.Order.{found_cmp, name_at, name_cmp, name_of, names_of, place_cmp, IsAscending, IsFound, IsGap, Name}
 use Rattle.mf_edition.proofs.Placed.{name_at-names, name_cmp_total}
 
 -- a comparison at a place is one with the name at that place
@@ -23,7 +22,7 @@ place_cmp-at names name place inside = ap (found_cmp name) (slice_get-get_or nam
 not_less : (a b : Name) → name_cmp a b ≡ Less → is_lt (name_cmp b a) ≡ false
 not_less a b less = ap is_lt (name_cmp_total.antisymm b a ∙ ap ordering_reverse less)
 
-module _ (names : List Name) (order : List ℕ) (name : Name) (o : IsOrder names order) where
+module _ (names : List Name) (order : List ℕ) (name : Name) (o : IsAscending names order) where
   -- the reads of a list do not depend on the default within it
   at_default : (k d : ℕ) → k < length order → get_or order k d ≡ get_or order k 0
   at_default k d inside = get_or_default order k d 0 inside

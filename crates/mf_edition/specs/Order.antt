@@ -31,11 +31,20 @@ found_cmp name (Some other) = name_cmp other name
 abbrev pub place_cmp : List Name → Name → ℕ → Ordering
 place_cmp names name place = found_cmp name (slice_get names place)
 
+-- the places are of messages, and their names ascend
+pub record IsAscending (names : List Name) (order : List ℕ) : Type 0 where
+  pub below : (k : ℕ) → k < length order → slice_index order k < length names
+  pub ascending : (i j : ℕ) → i < j → j < length order → name_cmp (name_at names (slice_index order i)) (name_at names (slice_index order j)) ≡ Less
+
 -- the order has each place once, and the names ascend
 pub record IsOrder (names : List Name) (order : List ℕ) : Type 0 where
   pub below : (k : ℕ) → k < length order → slice_index order k < length names
   pub ascending : (i j : ℕ) → i < j → j < length order → name_cmp (name_at names (slice_index order i)) (name_at names (slice_index order j)) ≡ Less
   pub complete : (k : ℕ) → k < length names → (i : ℕ) × (i < length order) × (slice_index order i ≡ k)
+
+-- the names of these places are all below this one
+pub record AreBelow (names : List Name) (order : List ℕ) (name : Name) : Type 0 where
+  pub each : (k : ℕ) → k < length order → name_cmp (name_at names (slice_index order k)) name ≡ Less
 
 -- the name of the place that stands there in the order is this one
 pub record IsFound (names : List Name) (order : List ℕ) (name : Name) (at : ℕ) : Type 0 where

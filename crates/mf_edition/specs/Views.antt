@@ -15,3 +15,7 @@ entry_pair entry = record { name = entry.0.now; value = entry.1.now }
 -- the messages that shared ones are
 abbrev pub item_values : List (Arc Item Global) → List Item
 item_values items = map arc_value items
+
+-- the message that an item is made of
+abbrev pub message_of : Item → Pair
+message_of item = record { name = item.id; value = item.source }

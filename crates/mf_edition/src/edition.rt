@@ -67,8 +67,7 @@ impl Edition {
     {
         let sources = sources_by_id(self.alloc, messages)?;
         let mut items = self.items.clone()?;
-        let mut order = self.order.clone()?;
-        put_messages(self.alloc, &mut items, &mut order, tag, &sources)?;
+        let order = put_messages(self.alloc, &mut items, &self.order, tag, &sources)?;
         Ok(Edition {
             alloc: self.alloc,
             number: self.number + 1,

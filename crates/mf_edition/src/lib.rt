@@ -12,7 +12,10 @@ mod publication;
 pub use change::{Change, Entry};
 pub use edition::Edition;
 pub use item::Item;
-pub use laws::{changes_are_bounded, editions_are_numbered, editions_follow, editions_have_distinct_names, editions_stay};
+pub use laws::{
+    changes_are_bounded, editions_are_numbered, editions_follow, editions_have_distinct_names,
+    editions_stay,
+};
 pub use log::{Log, PublishError};
 
 #[cfg(test)]

@@ -1,11 +1,16 @@
 //! The places of messages in the order of their tags and ids.
-ghost use Rattle.std.specs.Prelude.{◌≡◌, ◌<◌, ◌^◌, length, map, position, MatchResult, OnOk};
+ghost use Rattle.std.specs.Prelude.{◌≡◌, ◌≤◌, ◌<◌, ◌^◌, ◌++◌, drop, length, map, position, IfOk, MatchResult, OnOk};
+ghost use Rattle.std.specs.Arc.{arc_value};
+ghost use Rattle.std.specs.BTreeMap.{keys};
+ghost use Rattle.std.specs.declared.cmp.Ordering.TheVariants.{Less};
+ghost use Rattle.std.specs.List.Sorted.{IsStrictlySortedBy};
+ghost use Rattle.mf_text.specs.Order.{byte_cmp};
 ghost use Rattle.mf_edition.specs.Edition.{is_named, put, put_all};
-ghost use Rattle.mf_edition.specs.Order.{names_of, place_cmp, IsFound, IsGap, IsOrder};
-ghost use Rattle.mf_edition.specs.Views.{entry_pair, item_values};
+ghost use Rattle.mf_edition.specs.Order.{name_cmp, name_of, names_of, place_cmp, AreBelow, IsAscending, IsFound, IsGap, IsOrder, Name};
+ghost use Rattle.mf_edition.specs.Views.{entry_pair, item_values, message_of};
 
 use crate::Item;
-use crate::item::compare_names;
+use crate::item::{compare_names, shared_item};
 use mf_locale::Tag;
 use mf_text::Text;
 use std::alloc::{AllocError, Global};
@@ -15,7 +20,7 @@ use std::sync::Arc;
 
 /// Where the place of a message stands in the order, or where it would have to stand.
 fn search(items: &[Arc<Item>], order: &[u32], tag: &Tag, id: &Text) -> Result<usize, usize>
-    requires { IsOrder (names_of (item_values items.now)) order.now }
+    requires { IsAscending (names_of (item_values items.now)) order.now }
     ensures { MatchResult result (λ at. IsFound (names_of (item_values items.now)) order.now (tag.now, id.now) at) (λ at. IsGap (names_of (item_values items.now)) order.now (tag.now, id.now) at) }
 {
     order.binary_search_by(|place| compare_place(items, *place, tag, id))
@@ -44,57 +49,59 @@ pub fn place_of(items: &[Arc<Item>], order: &[u32], tag: &Tag, id: &Text) -> Opt
 
 /// Puts a message in: one of its tag and id keeps its place, and another goes to the end.
 ///
-/// After an error neither list means anything.
-pub fn put_message(
-    alloc: Global,
+/// The order is being built: `order` has the places of lower names, and `rest` those that are still to come. What is
+/// answered is how many of the rest went into `order`, before the new place. After an error no list means anything.
+fn put_message(
     items: &mut Vec<Arc<Item>>,
     order: &mut Vec<u32>,
-    tag: &Tag,
-    id: &Text,
-    source: &Text,
-) -> Result<(), AllocError>
-    requires order { IsOrder (names_of (item_values items.old.items)) order.old.items }
+    rest: &[u32],
+    item: Arc<Item>,
+) -> Result<usize, AllocError>
+    requires order { IsOrder (names_of (item_values items.old.items)) (order.old.items ++ rest.now) }
+    requires below { AreBelow (names_of (item_values items.old.items)) order.old.items (name_of (arc_value item)) }
     requires room { length items.old.items < 2 ^ 32 }
-    ensures items { OnOk result (item_values items.new.items ≡ put (item_values items.old.items) tag.now (record { name = id.now; value = source.now })) }
-    ensures order { OnOk result (IsOrder (names_of (item_values items.new.items)) order.new.items) }
+    ensures items { OnOk result (item_values items.new.items ≡ put (item_values items.old.items) (arc_value item).tag (message_of (arc_value item))) }
+    ensures moved { IfOk result (λ moved. moved ≤ length rest.now) }
+    ensures order { IfOk result (λ moved. IsOrder (names_of (item_values items.new.items)) (order.new.items ++ drop moved rest.now)) }
+    ensures below { OnOk result ((next : Name) → name_cmp (name_of (arc_value item)) next ≡ Less → AreBelow (names_of (item_values items.new.items)) order.new.items next) }
 {
-    let item = Item {
-        tag: tag.clone()?,
-        id: id.clone()?,
-        source: source.clone()?,
-    };
-    let item = Arc::new(alloc, item)?;
-    match search(items, order, tag, id) {
+    match search(items, rest, &item.tag, &item.id) {
         Ok(at) => {
-            let place = order[at] as usize;
+            let place = rest[at] as usize;
             items[place] = item;
+            Ok(0)
         }
         Err(at) => {
-            let place = items.len() as u32;
+            order.extend_from_slice(&rest[..at])?;
+            order.push(items.len() as u32)?;
             items.push(item)?;
-            order.insert(at, place)?;
+            Ok(at)
         }
     }
-    Ok(())
 }
 
-/// Puts messages in, one after the other in the order of their ids.
+/// Puts messages in, one after the other in the order of their ids, and answers the order of all.
 ///
-/// After an error neither list means anything.
+/// After an error the items mean nothing.
 pub fn put_messages(
     alloc: Global,
     items: &mut Vec<Arc<Item>>,
-    order: &mut Vec<u32>,
+    order: &[u32],
     tag: &Tag,
     sources: &BTreeMap<&Text, &Text>,
-) -> Result<(), AllocError>
-    requires order { IsOrder (names_of (item_values items.old.items)) order.old.items }
+) -> Result<Vec<u32>, AllocError>
+    requires order { IsOrder (names_of (item_values items.old.items)) order.now }
+    requires sorted { IsStrictlySortedBy (λ a b. byte_cmp a.now b.now) (keys sources.now) }
     requires room { length (put_all (item_values items.old.items) tag.now (map entry_pair sources.now.entries)) < 2 ^ 32 }
     ensures items { OnOk result (item_values items.new.items ≡ put_all (item_values items.old.items) tag.now (map entry_pair sources.now.entries)) }
-    ensures order { OnOk result (IsOrder (names_of (item_values items.new.items)) order.new.items) }
+    ensures order { IfOk result (λ merged. IsOrder (names_of (item_values items.new.items)) merged.items) }
 {
+    let mut merged = Vec::new(alloc);
+    let mut moved = 0;
     for (id, source) in sources {
-        put_message(alloc, items, order, tag, id, source)?;
+        let item = shared_item(alloc, tag, id, source)?;
+        moved += put_message(items, &mut merged, &order[moved..], item)?;
     }
-    Ok(())
+    merged.extend_from_slice(&order[moved..])?;
+    Ok(merged)
 }

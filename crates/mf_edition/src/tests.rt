@@ -5,7 +5,10 @@ use std::alloc::Global;
 use std::fmt::Write;
 use std::test::Fail;
 
-fn catalogue(alloc: Global, tag: &str, messages: &[(&str, &str)]) -> Result<Change, Fail> {
+/// The ids and sources of one publication.
+type Messages = &'static [(&'static str, &'static str)];
+
+fn catalogue(alloc: Global, tag: &str, messages: Messages) -> Result<Change, Fail> {
     let mut pairs = Pairs::new(alloc);
     for (id, source) in messages {
         pairs.push(Pair {
@@ -17,6 +20,18 @@ fn catalogue(alloc: Global, tag: &str, messages: &[(&str, &str)]) -> Result<Chan
         tag: read_tag(alloc, tag)?,
         messages: pairs,
     })
+}
+
+/// The edition that publications make of the empty one.
+fn published(alloc: Global, publications: &[(&str, Messages)]) -> Result<Edition, Fail> {
+    let mut edition = Edition::empty(alloc)?;
+    for (tag, messages) in publications {
+        let change = catalogue(alloc, tag, messages)?;
+        if edition.has_room(&change) {
+            edition = edition.next(&change)?;
+        }
+    }
+    Ok(edition)
 }
 
 /// The messages of an edition in the order of their places.
@@ -37,36 +52,89 @@ fn listed(alloc: Global, edition: &Edition) -> Result<String, Fail> {
 }
 
 #[test]
-fn messages_keep_their_places(rt: HostRuntime) -> Result<(), Fail> {
-    let rows = [
+fn messages_stand_where_they_were_put_first(rt: HostRuntime) -> Result<(), Fail> {
+    let rows: [(&[(&str, Messages)], &str); 5] = [
+        // in the byte order of their ids
         (
-            "en",
-            [("b", "1"), ("a", "2"), ("c", "3")].as_slice(),
-            "en/a=2 en/b=1 en/c=3 ",
+            &[("en", &[("b", "1"), ("a", "2"), ("\u{e9}", "3"), ("A", "4")])],
+            "en/A=4 en/a=2 en/b=1 en/\u{e9}=3 ",
         ),
+        // of equal ids in one publication the last one counts
         (
-            "en",
-            [("d", "4"), ("b", "5"), ("d", "6"), ("A", "7")].as_slice(),
-            "en/a=2 en/b=5 en/c=3 en/A=7 en/d=6 ",
+            &[("en", &[("b", "1"), ("a", "2"), ("b", "3")])],
+            "en/a=2 en/b=3 ",
         ),
+        // a message that is published again keeps its place
         (
-            "und",
-            [("b", "8")].as_slice(),
-            "en/a=2 en/b=5 en/c=3 en/A=7 en/d=6 und/b=8 ",
+            &[
+                ("en", &[("b", "1")]),
+                ("en", &[("c", "2"), ("b", "3"), ("a", "4")]),
+            ],
+            "en/b=3 en/a=4 en/c=2 ",
         ),
+        // another tag's message is another one
         (
-            "de",
-            [("\u{e9}", "9"), ("z", "0")].as_slice(),
-            "en/a=2 en/b=5 en/c=3 en/A=7 en/d=6 und/b=8 de/z=0 de/\u{e9}=9 ",
+            &[
+                ("en", &[("b", "1")]),
+                ("de", &[("b", "2")]),
+                ("EN", &[("b", "3")]),
+            ],
+            "en/b=3 de/b=2 ",
         ),
+        (&[], ""),
     ];
-    let mut edition = Edition::empty(rt.alloc())?;
-    for (place, (tag, messages, expected)) in rows.iter().enumerate() {
-        let change = catalogue(rt.alloc(), tag, messages)?;
-        assert!(rt; edition.has_room(&change));
-        edition = edition.next(&change)?;
-        assert_eq!(rt; edition.number(), place as u64 + 1);
-        assert_eq!(rt; listed(rt.alloc(), &edition)?.as_str(), *expected);
+    for (publications, expected) in rows {
+        let edition = published(rt.alloc(), publications)?;
+        assert_eq!(rt; listed(rt.alloc(), &edition)?.as_str(), expected);
+        assert_eq!(rt; edition.number(), publications.len() as u64);
     }
+    Ok(())
+}
+
+#[test]
+fn a_message_is_found_by_its_tag_and_id(rt: HostRuntime) -> Result<(), Fail> {
+    let publications: [(&str, Messages); 3] = [
+        ("en", &[("d", ""), ("b", ""), ("f", "")]),
+        ("de", &[("c", ""), ("e", "")]),
+        ("en", &[("a", ""), ("c", ""), ("d", ""), ("g", "")]),
+    ];
+    let edition = published(rt.alloc(), &publications)?;
+    let rows = [
+        ("en", "b", Some(0)),
+        ("en", "d", Some(1)),
+        ("en", "f", Some(2)),
+        ("de", "c", Some(3)),
+        ("de", "e", Some(4)),
+        ("en", "a", Some(5)),
+        ("en", "c", Some(6)),
+        ("en", "g", Some(7)),
+        ("en", "e", None),
+        ("de", "a", None),
+        ("und", "b", None),
+        ("en", "", None),
+    ];
+    for (tag, id, place) in rows {
+        let tag = read_tag(rt.alloc(), tag)?;
+        let id = Text::of(rt.alloc(), id)?;
+        assert_eq!(rt; edition.find(&tag, &id), place, "{}", id.as_str());
+    }
+    Ok(())
+}
+
+#[test]
+fn a_log_grows_at_its_end(rt: HostRuntime) -> Result<(), Fail> {
+    let mut log = Log::new(rt.alloc());
+    for nth in 1..4 {
+        let change = catalogue(rt.alloc(), "en", &[("a", "b")])?;
+        let pushed = log.push(Entry {
+            caller: 7,
+            nth,
+            change,
+        });
+        assert_eq!(rt; pushed, Ok(()));
+        assert_eq!(rt; log.len(), nth);
+    }
+    assert_eq!(rt; log.get(1).map(|entry| entry.nth), Some(2));
+    assert!(rt; log.get(3).is_none());
     Ok(())
 }

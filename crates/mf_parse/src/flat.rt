@@ -1,8 +1,8 @@
-ghost use Rattle.std.specs.Prelude.{◌≡◌, ◌≢◌, ◌<◌, ◌≤◌, ◌++◌, [], ◌∷◌, Some, None, chars, length, string_bytes, IfOk, OnOk, IsErrOf, slice_get};
+ghost use Rattle.std.specs.Prelude.{◌≡◌, ◌≢◌, ◌≤◌, ◌++◌, [], ◌∷◌, Some, None, chars, length, string_bytes, IfOk, OnOk, IsErrOf};
 ghost use Rattle.std.specs.Option.{option_map};
 ghost use Rattle.mf_parse.specs.Characters.{left_brace};
 ghost use Rattle.mf_parse.specs.Flat.{onto_text, Spells, IsFlat};
-ghost use Rattle.mf_parse.specs.Reading.{between, escaping, opened, naming, named, pieces_from, starts_simply as is_start_simple, flat_pieces};
+ghost use Rattle.mf_parse.specs.Reading.{between, escaping, opened, naming, pieces_from, starts_simply as starts_a_message, flat_pieces};
 
 use crate::characters::{is_escapable, is_name_char, is_name_start, is_text_char, is_white_space};
 use crate::cursor::Cursor;
@@ -27,9 +27,9 @@ pub fn read_flat(alloc: Global, text: &str) -> Result<FlatPieces, FlatError>
     read_pattern(alloc, text)
 }
 
-/// Whether white space alone, and then a full stop, is not what a text begins with.
+/// Whether a text may begin a simple message, as any may but white space alone before a full stop.
 fn starts_simply(text: &str) -> bool
-    ensures { result ≡ is_start_simple (chars text.now) }
+    ensures { result ≡ starts_a_message (chars text.now) }
 {
     let mut cursor = Cursor::new(text);
     while let Some(c) = cursor.next() {
@@ -95,13 +95,10 @@ fn read_character(first: char, cursor: &mut Cursor) -> Result<char, FlatError>
     ensures not_flat { IsErrOf result FlatError.NotFlat → pieces_from (first ∷ cursor.old) between ≡ None }
     ensures shorter { length cursor.new ≤ length cursor.old }
 {
-    if first == '\\' {
-        return read_escaped(cursor);
-    }
-    if is_text_char(first) {
-        Ok(first)
-    } else {
-        Err(FlatError::NotFlat)
+    match first {
+        '\\' => read_escaped(cursor),
+        _ if is_text_char(first) => Ok(first),
+        _ => Err(FlatError::NotFlat),
     }
 }
 

@@ -1,5 +1,5 @@
 -- Isolation of values by the default bidi strategy (Unicode TS 35, Part 9, "Handling bidirectional text").
-use Rattle.std.specs.Prelude.{ℕ, Bool, true, false, List, [], ◌∷◌, Option, Some, None, option_map}
+use Rattle.std.specs.Prelude.{ℕ, Bool, true, false, List, [], ◌∷◌, Option, Some, None}
 use Rattle.mf_text.specs.declared.direction.Direction.{Direction}
 use Rattle.mf_text.specs.declared.direction.Direction.TheVariants.{Ltr, Rtl, Unknown}
 use Rattle.mf_parts.specs.declared.part.Part.{Part}

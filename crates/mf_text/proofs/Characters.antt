@@ -10,8 +10,8 @@ use Rattle.std.specs.Str.{IsUtf8}
 pub same_tests : (a b : List ℕ) → IsUtf8 a → IsUtf8 b → pointwise nat_eq a b ≡ pointwise nat_eq (chars a) (chars b)
 same_tests a b a_text b_text =
     both_ways _ _
-        (λ e. (bytes_decides (chars a) (chars b)).1 (ap chars ((bytes_decides a b).0 e)))
-        (λ e. (bytes_decides a b).1
-            (sym (encodes-chars a a_text)
-            ∙ ap encode_utf8_all ((bytes_decides (chars a) (chars b)).0 e)
-            ∙ encodes-chars b b_text))
+    (λ e. (bytes_decides (chars a) (chars b)).1 (ap chars ((bytes_decides a b).0 e)))
+    (λ e. (bytes_decides a b).1
+    (sym (encodes-chars a a_text)
+    ∙ ap encode_utf8_all ((bytes_decides (chars a) (chars b)).0 e)
+    ∙ encodes-chars b b_text))

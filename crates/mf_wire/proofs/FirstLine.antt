@@ -1,5 +1,5 @@
 -- The first line of some bytes, by the place of the first line feed.
-use Rattle.std.proofs.Common.{◌≡◌, ◌≢◌, ℕ, zero, suc, ◌+◌, ◌-◌, ◌<◌, ◌≤◌, Bool, true, false, cond, List, [], ◌∷◌, ◌++◌, length, take, drop, get_or, nat_eq, refl, sym, ap, ◌∙◌, arith, add-one}
+use Rattle.std.proofs.Common.{◌≡◌, ◌≢◌, ℕ, zero, suc, ◌+◌, ◌<◌, ◌≤◌, Bool, true, false, cond, List, [], ◌∷◌, length, take, drop, get_or, nat_eq, refl, ap, ◌∙◌, arith, add-one}
 use Rattle.mf_wire.specs.Lines.{lines_of, onto_first, line_feed}
 
 -- a byte that is no line feed
@@ -21,7 +21,7 @@ line_to (byte ∷ bytes) zero inside before at = ap (λ b. cond b ([] ∷ lines_
 line_to (byte ∷ bytes) (suc end) inside before at =
     let first : IsInLine byte = before 0 (omega arith) in
     let rest : lines_of bytes ≡ take end bytes ∷ lines_of (drop (suc end) bytes) =
-        line_to bytes end (omega arith) (λ k h. before (suc k) (below_suc h)) at in
+    line_to bytes end (omega arith) (λ k h. before (suc k) (below_suc h)) at in
     ap (λ b. cond b ([] ∷ lines_of bytes) (onto_first byte (lines_of bytes))) first ∙ ap (onto_first byte) rest
 
 one_line : (bytes : List ℕ) → bytes ≢ [] → ((k : ℕ) → k < length bytes → IsInLine (get_or bytes k 0)) → lines_of bytes ≡ bytes ∷ []
@@ -31,7 +31,7 @@ one_line (byte ∷ []) some each =
 one_line (byte ∷ next ∷ bytes) some each =
     let first : IsInLine byte = each 0 (omega arith) in
     let rest : lines_of (next ∷ bytes) ≡ (next ∷ bytes) ∷ [] =
-        one_line (next ∷ bytes) (λ e. cc) (λ k h. each (suc k) (below_suc h)) in
+    one_line (next ∷ bytes) (λ e. cc) (λ k h. each (suc k) (below_suc h)) in
     ap (λ b. cond b ([] ∷ lines_of (next ∷ bytes)) (onto_first byte (lines_of (next ∷ bytes)))) first ∙ ap (onto_first byte) rest
 
 -- what a search for the first line feed tells

@@ -1,5 +1,5 @@
 -- What a line asks for.
-use Rattle.std.specs.Prelude.{ℕ, Bool, List, chars, codes, Option, Some, None, option_map, option_and_then, is_some, if◌then◌else◌, Result, Ok, Err}
+use Rattle.std.specs.Prelude.{ℕ, List, chars, codes, Option, Some, None, option_map, option_and_then, is_some, if◌then◌else◌, Result, Err}
 use Rattle.std.specs.Option.{ok_or}
 use Rattle.std.specs.Str.{bytes_eq}
 use Rattle.serde_json.specs.Data.{Data}
@@ -16,17 +16,17 @@ use Rattle.mf_wire.specs.declared.request.Request.TheVariants.{Publish, Format}
 abbrev pub publish_request : Data → Option Request
 publish_request object =
     option_and_then
-        (λ tag. option_map (λ messages. Publish (Catalogue tag messages)) (catalogue_field (codes "messages") object))
-        (tag_field (codes "locale") object)
+    (λ tag. option_map (λ messages. Publish (Catalogue tag messages)) (catalogue_field (codes "messages") object))
+    (tag_field (codes "locale") object)
 
 -- a request for a sentence: a tag, an id and arguments; `since` isn't built yet
 abbrev pub format_request : Data → Option Request
 format_request object =
     if is_some (get (codes "since") object) then None else option_and_then
-        (λ tag. option_and_then
-            (λ id. option_map (λ arguments. Format tag (chars id) arguments) (arguments_of (get (codes "args") object)))
-            (string_field (codes "id") object))
-        (tag_field (codes "locale") object)
+    (λ tag. option_and_then
+    (λ id. option_map (λ arguments. Format tag (chars id) arguments) (arguments_of (get (codes "args") object)))
+    (string_field (codes "id") object))
+    (tag_field (codes "locale") object)
 
 -- what an object with this `op` asks for, where it is built
 abbrev pub request_by : List ℕ → Data → Option Request

@@ -23,7 +23,11 @@ pub(crate) fn string_field<'v>(object: &'v Value, name: &str) -> Option<&'v str>
 }
 
 /// A field that is a tag.
-pub(crate) fn tag_field(alloc: Global, object: &Value, name: &str) -> Result<Option<Tag>, AllocError>
+pub(crate) fn tag_field(
+    alloc: Global,
+    object: &Value,
+    name: &str,
+) -> Result<Option<Tag>, AllocError>
     ensures { IfOk result (λ tag. tag ≡ fields.tag_field name.now (view object.now)) }
 {
     let Some(text) = string_field(object, name) else {
@@ -37,7 +41,11 @@ pub(crate) fn tag_field(alloc: Global, object: &Value, name: &str) -> Result<Opt
 }
 
 /// A field that is a catalogue.
-pub(crate) fn catalogue_field(alloc: Global, object: &Value, name: &str) -> Result<Option<Pairs>, AllocError>
+pub(crate) fn catalogue_field(
+    alloc: Global,
+    object: &Value,
+    name: &str,
+) -> Result<Option<Pairs>, AllocError>
     ensures { IfOk result (λ messages. messages ≡ fields.catalogue_field name.now (view object.now)) }
 {
     let Some(members) = object.get(name).and_then(Value::as_object) else {
@@ -94,7 +102,11 @@ fn message(alloc: Global, id: &str, source: &Value) -> Result<Option<Pair>, Allo
 }
 
 /// The arguments of a field.
-pub(crate) fn arguments_field(alloc: Global, object: &Value, name: &str) -> Result<Option<Arguments>, AllocError>
+pub(crate) fn arguments_field(
+    alloc: Global,
+    object: &Value,
+    name: &str,
+) -> Result<Option<Arguments>, AllocError>
     ensures { IfOk result (λ arguments. arguments ≡ fields.arguments_of (get name.now (view object.now))) }
 {
     let Some(value) = object.get(name) else {

@@ -19,15 +19,24 @@ pub enum Op {
 #[derive(Debug, Drop)]
 pub enum Reply {
     /// The publication is this edition.
-    Accepted { edition: u64, op: Op },
+    Accepted {
+        edition: u64,
+        op: Op,
+    },
     /// The message of this edition that stands under this tag, formatted.
-    Formatted { edition: u64, tag: Tag, parts: Parts },
+    Formatted {
+        edition: u64,
+        tag: Tag,
+        parts: Parts,
+    },
     /// The line is no JSON.
     BadJson,
     /// The line is JSON, and asks for what isn't built yet.
     NotBuilt,
     /// No tag of the chain has the id in this edition.
-    NoMessage { edition: u64 },
+    NoMessage {
+        edition: u64,
+    },
 }
 
 /// The line of a request that found no memory.
@@ -47,11 +56,17 @@ fn reply_value(alloc: Global, reply: &Reply) -> Result<Value, AllocError>
     ensures { IfOk result (λ v. view v ≡ reply_data reply.now) }
 {
     match reply {
-        Reply::Accepted { edition, op } => json!(in alloc; {"edition": *edition, "ok": op_name(*op)}),
-        Reply::Formatted { edition, tag, parts } => formatted_value(alloc, *edition, tag, parts),
+        Reply::Accepted { edition, op } =>
+            json!(in alloc; {"edition": *edition, "ok": op_name(*op)}),
+        Reply::Formatted {
+            edition,
+            tag,
+            parts,
+        } => formatted_value(alloc, *edition, tag, parts),
         Reply::BadJson => error_value(alloc, "bad-json"),
         Reply::NotBuilt => error_value(alloc, "not-built"),
-        Reply::NoMessage { edition } => json!(in alloc; {"edition": *edition, "error": "no-message"}),
+        Reply::NoMessage { edition } =>
+            json!(in alloc; {"edition": *edition, "error": "no-message"}),
     }
 }
 
@@ -72,7 +87,12 @@ fn error_value(alloc: Global, name: &str) -> Result<Value, AllocError>
 }
 
 /// The object of a formatted message.
-fn formatted_value(alloc: Global, edition: u64, tag: &Tag, parts: &Parts) -> Result<Value, AllocError>
+fn formatted_value(
+    alloc: Global,
+    edition: u64,
+    tag: &Tag,
+    parts: &Parts,
+) -> Result<Value, AllocError>
     ensures { IfOk result (λ v. view v ≡ formatted_data edition tag.now parts.now) }
 {
     let text = joined(alloc, parts)?;

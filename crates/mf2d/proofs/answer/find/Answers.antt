@@ -1,4 +1,4 @@
-use Rattle.std.proofs.Common.{◌∙◌, sym}
+use Rattle.std.proofs.Common.{◌∙◌}
 use Rattle.mf_edition.specs.Edition.{is_named}
 use Rattle.mf2d.proofs.Answering.{found-position, missing-position}
 use Rattle.mf2d.proofs.answer.find.Goals as goal

@@ -1,12 +1,11 @@
 -- A word is ASCII text, so its characters are its bytes.
-use Rattle.std.proofs.Common.{◌≡◌, ◌∙◌, ℕ, List, Bool, true, false, cond, Option, Some, None, ap, sym, nat_eq, refl}
+use Rattle.std.proofs.Common.{◌≡◌, ◌∙◌, ℕ, List, Bool, true, false, cond, Some, None, ap, sym, nat_eq, refl}
 use Rattle.std.specs.Cmp.Lexicographic.{pointwise}
 use Rattle.std.specs.Prelude.{codes}
 use Rattle.std.proofs.lemmas.Str.{IsUtf8-from_is_utf8}
 use Rattle.std.specs.Str.{bytes_eq, chars, IsUtf8, is_utf8}
 use Rattle.mf_text.proofs.Characters.{same_tests}
 use Rattle.mf2d.specs.Commands.{command_named}
-use Rattle.mf2d.specs.declared.command.Command.{Command}
 use Rattle.mf2d.specs.declared.command.Command.TheVariants.{Pipe}
 use Rattle.mf2d.proofs.command.named.Goals as goal
 

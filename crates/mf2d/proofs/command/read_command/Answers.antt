@@ -1,5 +1,5 @@
 -- By the number of words.
-use Rattle.std.proofs.Common.{◌≡◌, ℕ, ◌<◌, ◌≤◌, List, [], ◌∷◌, length, get_or, None, ap, sym, ◌∙◌, arith, refl, subst}
+use Rattle.std.proofs.Common.{◌≡◌, ℕ, ◌<◌, ◌≤◌, List, [], ◌∷◌, length, get_or, None, ap, ◌∙◌, arith, refl}
 use Rattle.mf2d.specs.Commands.{command_of, command_named}
 use Rattle.mf2d.proofs.command.read_command.Goals as goal
 

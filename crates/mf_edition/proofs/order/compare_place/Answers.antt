@@ -1,5 +1,4 @@
-use Rattle.std.proofs.Common.{ap, sym, ◌∙◌, arith}
-use Rattle.std.proofs.lemmas.Bool.Decides.{nat_tests}
+use Rattle.std.proofs.Common.{ap, sym, ◌∙◌}
 use Rattle.mf_edition.specs.Order.{name_cmp, name_of}
 use Rattle.mf_edition.proofs.Searched.{compared_item, compared_past}
 use Rattle.mf_edition.proofs.order.compare_place.Goals as goal

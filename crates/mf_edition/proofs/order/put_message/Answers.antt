@@ -1,87 +1,134 @@
 -- A message that was found gets the new source; any other goes to the end of the items, and its place into the order.
-use Rattle.std.proofs.Common.{◌≡◌, ◌++◌, ◌∷◌, [], length, map, get_or, set, ap, sym, ◌∙◌, subst, arith}
-use Rattle.std.proofs.lemmas.List.{get_or_default, length-map, map-append, map-set}
+use Rattle.std.proofs.Common.{◌≡◌, ◌<◌, ◌+◌, ◌++◌, ◌∷◌, [], length, get_or, set, take, drop, ap, sym, ◌∙◌, subst, arith}
+use Rattle.std.proofs.lemmas.List.{get_or-append-add, length-map, map-append, map-set}
 use Rattle.std.specs.Arc.{arc_value}
 use Rattle.std.specs.List.{insert}
-use Rattle.mf_edition.specs.Edition.{put}
-use Rattle.mf_edition.specs.Order.{name_of, names_of, IsFound, IsGap, IsOrder}
-use Rattle.mf_edition.specs.Views.{item_values}
+use Rattle.mf_edition.specs.Order.{name_of, names_of, AreBelow, IsAscending, IsFound, IsGap, IsOrder}
+use Rattle.mf_edition.specs.Views.{item_values, message_of}
+use Rattle.mf_edition.proofs.Merged.{moved_is, AreBelow-moved, AreBelow-next, IsAscending-rest, IsFound-rest, IsGap-rest}
 use Rattle.mf_edition.proofs.Placed.{found_first, found_inside, found_name, found_named, gap_unnamed, length-names, name_at-names, no_item}
-use Rattle.mf_edition.proofs.Pushed.{made, names_kept, names_pushed, order_pushed, put_found, put_gap}
+use Rattle.mf_edition.proofs.Pushed.{names_kept, names_pushed, order_pushed, put_found, put_gap}
 use Rattle.mf_edition.proofs.order.put_message.Goals as goal
-use Rattle.mf_edition.proofs.order.put_message.Goals.{In_ok-item, After-drop-index_mut, In_ok-insert-in-Err}
+use Rattle.mf_edition.proofs.order.put_message.Goals.{In-Ok, In-Err, In_ok-push-in-Err-2}
 
--- the shared item is the one that the message makes
-item_is : (c : In_ok-item) → arc_value c.in_ok-item.item ≡ made c.args.tag.now (record { name = c.args.id.now; value = c.args.source.now })
-item_is c =
-    c.in_ok-item.ensures.ok
-    ∙ (λ i. record { tag = c.in_ok-clone.ensures.cases i; id = c.in_ok-clone-2.ensures.cases i; source = c.in_ok-clone-3.ensures.cases i })
+pub search-requires : goal.search-requires
+search-requires c =
+    subst (λ items. IsAscending (names_of (item_values items)) c.args.rest.now) (sym c.deref.ensures.value)
+    (IsAscending-rest (names_of (item_values c.args.items.now.items)) c.args.order.now.items c.args.rest.now c.requires.order)
 
 -- what the search says of the lists that were handed in
-found_here : (c : After-drop-index_mut) → IsFound (names_of (item_values c.args.items.now.items)) c.args.order.now.items (c.args.tag.now, c.args.id.now) c.in-Ok.at
-found_here c =
-    subst (λ items. IsFound (names_of (item_values items)) c.args.order.now.items (c.args.tag.now, c.args.id.now) c.in-Ok.at) c.deref.ensures.value
-    (subst (λ order. IsFound (names_of (item_values c.deref.result.now)) order (c.args.tag.now, c.args.id.now) c.in-Ok.at) c.deref-2.ensures.value c.in-Ok.ensures)
+found : (c : In-Ok) → IsFound (names_of (item_values c.args.items.now.items)) (c.args.order.now.items ++ c.args.rest.now) (name_of (arc_value c.args.item)) (length c.args.order.now.items + c.in-Ok.at)
+found c =
+    IsFound-rest (names_of (item_values c.args.items.now.items)) c.args.order.now.items c.args.rest.now (name_of (arc_value c.args.item)) c.in-Ok.at
+    (subst (λ name. IsFound (names_of (item_values c.args.items.now.items)) c.args.rest.now name c.in-Ok.at) (λ i. ((c.deref-2.ensures i).tag, (c.deref-3.ensures i).id))
+    (subst (λ items. IsFound (names_of (item_values items)) c.args.rest.now (c.deref-2.result.now.tag, c.deref-3.result.now.id) c.in-Ok.at) c.deref.ensures.value c.in-Ok.ensures))
 
-gap_here : (c : In_ok-insert-in-Err) → IsGap (names_of (item_values c.args.items.now.items)) c.args.order.now.items (c.args.tag.now, c.args.id.now) c.in-Err.at
-gap_here c =
-    subst (λ items. IsGap (names_of (item_values items)) c.args.order.now.items (c.args.tag.now, c.args.id.now) c.in-Err.at) c.deref.ensures.value
-    (subst (λ order. IsGap (names_of (item_values c.deref.result.now)) order (c.args.tag.now, c.args.id.now) c.in-Err.at) c.deref-2.ensures.value c.in-Err.ensures)
+gap : (c : In-Err) → IsGap (names_of (item_values c.args.items.now.items)) c.args.rest.now (name_of (arc_value c.args.item)) c.in-Err.at
+gap c =
+    subst (λ name. IsGap (names_of (item_values c.args.items.now.items)) c.args.rest.now name c.in-Err.at) (λ i. ((c.deref-2.ensures i).tag, (c.deref-3.ensures i).id))
+    (subst (λ items. IsGap (names_of (item_values items)) c.args.rest.now (c.deref-2.result.now.tag, c.deref-3.result.now.id) c.in-Err.at) c.deref.ensures.value c.in-Err.ensures)
 
 -- the place that was found
-place_is : (c : After-drop-index_mut) → c.index.result.now ≡ get_or c.args.order.now.items c.in-Ok.at 0
-place_is c = c.index.ensures ∙ get_or_default c.args.order.now.items c.in-Ok.at c.index.result.now 0 (found_here c).inside
+place_is : (c : In-Ok) → get_or (c.args.order.now.items ++ c.args.rest.now) (length c.args.order.now.items + c.in-Ok.at) 0 ≡ get_or c.args.rest.now c.in-Ok.at 0
+place_is c = get_or-append-add c.args.order.now.items c.args.rest.now c.in-Ok.at 0
 
-replaced : (c : After-drop-index_mut) → item_values (set c.args.items.now.items c.index.result.now c.in_ok-item.item)
-    ≡ set (item_values c.args.items.now.items) (get_or c.args.order.now.items c.in-Ok.at 0) (made c.args.tag.now (record { name = c.args.id.now; value = c.args.source.now }))
+inside : (c : In-Ok) → get_or (c.args.order.now.items ++ c.args.rest.now) (length c.args.order.now.items + c.in-Ok.at) 0 < length (item_values c.args.items.now.items)
+inside c =
+    let item = arc_value c.args.item in
+    found_inside (item_values c.args.items.now.items) (c.args.order.now.items ++ c.args.rest.now) item.tag item.id c.requires.order (length c.args.order.now.items + c.in-Ok.at) (found c)
+
+pub index_mut-requires : goal.index_mut-requires
+index_mut-requires c =
+    let low = inside (goal.at.index_mut-requires c).In-Ok in
+    let place = place_is (goal.at.index_mut-requires c).In-Ok in
+    let count = length-map c.args.items.now.items arc_value in
+    let len = c.args.items.now.ok.0 in
+    omega arith
+
+replaced : (c : In-Ok) → item_values (set c.args.items.now.items (get_or c.args.rest.now c.in-Ok.at 0) c.args.item)
+    ≡ set (item_values c.args.items.now.items) (get_or (c.args.order.now.items ++ c.args.rest.now) (length c.args.order.now.items + c.in-Ok.at) 0) (arc_value c.args.item)
 replaced c =
-    map-set arc_value c.args.items.now.items c.index.result.now c.in_ok-item.item
-    ∙ ap (set (item_values c.args.items.now.items) c.index.result.now) (item_is (goal.at.returns-in-Ok-clause-items c).In_ok-item)
-    ∙ ap (λ place. set (item_values c.args.items.now.items) place (made c.args.tag.now (record { name = c.args.id.now; value = c.args.source.now }))) (place_is c)
+    map-set arc_value c.args.items.now.items (get_or c.args.rest.now c.in-Ok.at 0) c.args.item
+    ∙ ap (λ place. set (item_values c.args.items.now.items) place (arc_value c.args.item)) (sym (place_is c))
+
+names_are : (c : In-Ok) → names_of (item_values (set c.args.items.now.items (get_or c.args.rest.now c.in-Ok.at 0) c.args.item)) ≡ names_of (item_values c.args.items.now.items)
+names_are c =
+    let items = item_values c.args.items.now.items in
+    let order = c.args.order.now.items ++ c.args.rest.now in
+    let item = arc_value c.args.item in
+    let at = length c.args.order.now.items + c.in-Ok.at in
+    ap names_of (replaced c)
+    ∙ names_kept items (get_or order at 0) item
+    (sym (found_name items order item.tag item.id c.requires.order at (found c)) ∙ name_at-names items (get_or order at 0) no_item (inside c))
 
 pub returns-in-Ok-clause-items : goal.returns-in-Ok-clause-items
 returns-in-Ok-clause-items c =
+    let here = (goal.at.returns-in-Ok-clause-items c).In-Ok in
     let items = item_values c.args.items.now.items in
-    let order = c.args.order.now.items in
-    replaced c
-    ∙ sym (put_found items c.args.tag.now (record { name = c.args.id.now; value = c.args.source.now }) (get_or order c.in-Ok.at 0)
-    (found_inside items order c.args.tag.now c.args.id.now c.requires.order c.in-Ok.at (found_here c))
-    (found_first items order c.args.tag.now c.args.id.now c.requires.order c.in-Ok.at (found_here c))
-    (found_named items order c.args.tag.now c.args.id.now c.requires.order c.in-Ok.at (found_here c)))
+    let order = c.args.order.now.items ++ c.args.rest.now in
+    let item = arc_value c.args.item in
+    let at = length c.args.order.now.items + c.in-Ok.at in
+    replaced here
+    ∙ sym (put_found items item.tag (message_of item) (get_or order at 0) (inside here)
+    (found_first items order item.tag item.id c.requires.order at (found here))
+    (found_named items order item.tag item.id c.requires.order at (found here)))
 
 pub returns-in-Ok-clause-order : goal.returns-in-Ok-clause-order
 returns-in-Ok-clause-order c =
-    let items = item_values c.args.items.now.items in
-    let order = c.args.order.now.items in
-    let inside = found_inside items order c.args.tag.now c.args.id.now c.requires.order c.in-Ok.at (found_here c) in
-    let name = found_name items order c.args.tag.now c.args.id.now c.requires.order c.in-Ok.at (found_here c) in
-    subst (λ names. IsOrder names order)
-    (sym (ap names_of (replaced c)
-    ∙ names_kept items (get_or order c.in-Ok.at 0) (made c.args.tag.now (record { name = c.args.id.now; value = c.args.source.now }))
-    (sym name ∙ name_at-names items (get_or order c.in-Ok.at 0) no_item inside)))
-    c.requires.order
+    subst (λ names. IsOrder names (c.args.order.now.items ++ c.args.rest.now)) (sym (names_are (goal.at.returns-in-Ok-clause-order c).In-Ok)) c.requires.order
 
-pushed : (c : In_ok-insert-in-Err) → item_values c.push.new.self.items ≡ item_values c.args.items.now.items ++ made c.args.tag.now (record { name = c.args.id.now; value = c.args.source.now }) ∷ []
-pushed c =
-    ap item_values c.in_ok-push-in-Err.ensures.items
-    ∙ map-append arc_value c.args.items.now.items (c.in_ok-item.item ∷ [])
-    ∙ ap (λ item. item_values c.args.items.now.items ++ item ∷ []) (item_is (goal.at.returns-in_ok-insert-in-Err-clause-items c).In_ok-item)
+pub returns-in-Ok-clause-below : goal.returns-in-Ok-clause-below
+returns-in-Ok-clause-below c =
+    λ next less.
+    subst (λ names. AreBelow names c.args.order.now.items next) (sym (names_are (goal.at.returns-in-Ok-clause-below c).In-Ok))
+    (AreBelow-next (names_of (item_values c.args.items.now.items)) c.args.order.now.items c.args.rest.now (name_of (arc_value c.args.item)) c.requires.below next less)
 
-pub returns-in_ok-insert-in-Err-clause-items : goal.returns-in_ok-insert-in-Err-clause-items
-returns-in_ok-insert-in-Err-clause-items c =
-    let items = item_values c.args.items.now.items in
-    pushed c
-    ∙ sym (put_gap items c.args.tag.now (record { name = c.args.id.now; value = c.args.source.now })
-    (gap_unnamed items c.args.order.now.items c.args.tag.now c.args.id.now c.requires.order c.in-Err.at (gap_here c)))
+-- the item at the end, and its place between the lower names and the rest
+pushed : (c : In_ok-push-in-Err-2) → item_values c.push-in-Err.new.self.items ≡ item_values c.args.items.now.items ++ arc_value c.args.item ∷ []
+pushed c = ap item_values c.in_ok-push-in-Err-2.ensures.items ∙ map-append arc_value c.args.items.now.items (c.args.item ∷ [])
 
-pub returns-in_ok-insert-in-Err-clause-order : goal.returns-in_ok-insert-in-Err-clause-order
-returns-in_ok-insert-in-Err-clause-order c =
+names_more : (c : In_ok-push-in-Err-2) → names_of (item_values c.push-in-Err.new.self.items) ≡ names_of (item_values c.args.items.now.items) ++ name_of (arc_value c.args.item) ∷ []
+names_more c = ap names_of (pushed c) ∙ names_pushed (item_values c.args.items.now.items) (arc_value c.args.item)
+
+order_is : (c : In_ok-push-in-Err-2) → c.push.new.self.items ≡ (c.args.order.now.items ++ take c.in-Err.at c.args.rest.now) ++ length (names_of (item_values c.args.items.now.items)) ∷ []
+order_is c =
+    let count : c.len.result ≡ length (names_of (item_values c.args.items.now.items)) =
+    c.len.ensures ∙ c.args.items.now.ok.0 ∙ sym (length-map c.args.items.now.items arc_value) ∙ sym (length-names (item_values c.args.items.now.items)) in
+    c.in_ok-push-in-Err.ensures.items
+    ∙ ap (λ o. o ++ c.len.result ∷ []) c.in_ok-extend_from_slice-in-Err.ensures.items
+    ∙ ap (λ n. (c.args.order.now.items ++ take c.in-Err.at c.args.rest.now) ++ n ∷ []) count
+
+pub returns-in_ok-push-in-Err-2-clause-items : goal.returns-in_ok-push-in-Err-2-clause-items
+returns-in_ok-push-in-Err-2-clause-items c =
     let items = item_values c.args.items.now.items in
-    let names = ap names_of (pushed c) ∙ names_pushed items (made c.args.tag.now (record { name = c.args.id.now; value = c.args.source.now })) in
-    let count : c.len-place.result ≡ length (names_of items) =
-    c.len-place.ensures ∙ c.args.items.now.ok.0 ∙ sym (length-map c.args.items.now.items arc_value) ∙ sym (length-names items) in
-    let order : c.insert.new.self.items ≡ insert c.args.order.now.items c.in-Err.at (length (names_of items)) =
-    c.in_ok-insert-in-Err.ensures.items ∙ ap (insert c.args.order.now.items c.in-Err.at) count in
-    subst (λ o. IsOrder (names_of (item_values c.push.new.self.items)) o) (sym order)
-    (subst (λ n. IsOrder n (insert c.args.order.now.items c.in-Err.at (length (names_of items)))) (sym names)
-    (order_pushed (names_of items) c.args.order.now.items (c.args.tag.now, c.args.id.now) c.in-Err.at c.requires.order (gap_here c)))
+    let order = c.args.order.now.items ++ c.args.rest.now in
+    let item = arc_value c.args.item in
+    let at = length c.args.order.now.items + c.in-Err.at in
+    let there = gap (goal.at.returns-in_ok-push-in-Err-2-clause-items c).In-Err in
+    pushed (goal.at.returns-in_ok-push-in-Err-2-clause-items c).In_ok-push-in-Err-2
+    ∙ sym (put_gap items item.tag (message_of item)
+    (gap_unnamed items order item.tag item.id c.requires.order at
+    (IsGap-rest (names_of items) c.args.order.now.items c.args.rest.now (name_of item) c.in-Err.at c.requires.below there)))
+
+pub returns-in_ok-push-in-Err-2-clause-order : goal.returns-in_ok-push-in-Err-2-clause-order
+returns-in_ok-push-in-Err-2-clause-order c =
+    let here = (goal.at.returns-in_ok-push-in-Err-2-clause-order c).In_ok-push-in-Err-2 in
+    let there = gap (goal.at.returns-in_ok-push-in-Err-2-clause-order c).In-Err in
+    let names = names_of (item_values c.args.items.now.items) in
+    let name = name_of (arc_value c.args.item) in
+    let order = c.args.order.now.items ++ c.args.rest.now in
+    let at = length c.args.order.now.items + c.in-Err.at in
+    let whole = order_pushed names order name at c.requires.order (IsGap-rest names c.args.order.now.items c.args.rest.now name c.in-Err.at c.requires.below there) in
+    let merged : insert order at (length names) ≡ c.push.new.self.items ++ drop c.in-Err.at c.args.rest.now =
+    moved_is names c.args.order.now.items c.args.rest.now c.in-Err.at (length names) ∙ ap (λ o. o ++ drop c.in-Err.at c.args.rest.now) (sym (order_is here)) in
+    subst (λ ns. IsOrder ns (c.push.new.self.items ++ drop c.in-Err.at c.args.rest.now)) (sym (names_more here)) (subst (λ o. IsOrder (names ++ name ∷ []) o) merged whole)
+
+pub returns-in_ok-push-in-Err-2-clause-below : goal.returns-in_ok-push-in-Err-2-clause-below
+returns-in_ok-push-in-Err-2-clause-below c =
+    λ next less.
+    let here = (goal.at.returns-in_ok-push-in-Err-2-clause-below c).In_ok-push-in-Err-2 in
+    let there = gap (goal.at.returns-in_ok-push-in-Err-2-clause-below c).In-Err in
+    let names = names_of (item_values c.args.items.now.items) in
+    let name = name_of (arc_value c.args.item) in
+    let low = AreBelow-moved names c.args.order.now.items c.args.rest.now name c.in-Err.at c.requires.order c.requires.below there next less in
+    subst (λ ns. AreBelow ns c.push.new.self.items next) (sym (names_more here)) (subst (λ o. AreBelow (names ++ name ∷ []) o next) (sym (order_is here)) low)

@@ -1,4 +1,4 @@
-use Rattle.std.proofs.Common.{◌≡◌, rules}
+use Rattle.std.proofs.Common.{rules}
 use Rattle.std.proofs.lemmas.Fn.{always_returns_same}
 use Rattle.mf_edition.specs.Order.{names_of, place_cmp}
 use Rattle.mf_edition.specs.Views.{item_values}

@@ -7,8 +7,12 @@ use Rattle.mf_edition.proofs.publication.sources_by_id.Goals as goal
 pub loop-message-preserved : goal.loop-message-preserved
 loop-message-preserved c =
     let so_far = in_byte_order (take c.loop-message.message-index c.args.messages.now) in
-    ap (map entry_pair) c.in_ok-insert.ensures.entries
-    ∙ entries_insert c.loop-message.sources.entries _ _
-    ∙ ap (insert_message c.message-item.result) c.loop-message.invariant
-    ∙ ap (λ message. insert_message message so_far) c.message-item.is
-    ∙ sym (in_byte_order_more c.args.messages.now c.loop-message.message-index c.message-item.result c.loop-message-test.true)
+    record {
+      so_far =
+          ap (map entry_pair) c.in_ok-insert.ensures.entries
+          ∙ entries_insert c.loop-message.sources.entries _ _
+          ∙ ap (insert_message c.message-item.result) c.loop-message.invariant.so_far
+          ∙ ap (λ message. insert_message message so_far) c.message-item.is
+          ∙ sym (in_byte_order_more c.args.messages.now c.loop-message.message-index c.message-item.result c.loop-message-test.true);
+      sorted = c.in_ok-insert.ensures.ordered;
+    }

@@ -1,4 +1,4 @@
-use Rattle.std.proofs.Common.{◌≡◌, ◌∙◌, ℕ, List, ◌++◌, length, take, encode_utf8_all, string_bytes, ap, sym, arith}
+use Rattle.std.proofs.Common.{◌∙◌, ◌++◌, encode_utf8_all, string_bytes, ap, sym}
 use Rattle.std.proofs.lemmas.List.{take_all}
 use Rattle.std.proofs.lemmas.Str.{encodes-chars, encodes_same, IsUtf8-string_bytes}
 use Rattle.mf_parts.proofs.Joining.{bytes_more}

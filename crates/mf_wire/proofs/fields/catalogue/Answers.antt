@@ -1,10 +1,9 @@
-use Rattle.std.proofs.Common.{◌≡◌, ◌∙◌, ℕ, List, Bool, true, false, cond, Option, None, ap, sym}
+use Rattle.std.proofs.Common.{◌≡◌, ◌∙◌, ℕ, Bool, true, false, cond, None, ap, sym}
 use Rattle.std.proofs.lemmas.Result.{IfOk-weaker}
 use Rattle.serde_json.proofs.Views.{members_len-members_view}
 use Rattle.serde_json.specs.Data.{Members}
 use Rattle.serde_json.specs.Events.{members_len}
 use Rattle.serde_json.specs.View.{members_view}
-use Rattle.mf_text.specs.declared.pair.Pair.{Pair}
 use Rattle.mf_wire.specs.Fields as fields
 use Rattle.mf_wire.proofs.fields.catalogue.Goals as goal
 
@@ -18,11 +17,11 @@ pub returns-then-is_catalogue_size : goal.returns-then-is_catalogue_size
 returns-then-is_catalogue_size c =
     let entries = c.args.members.now.entries in
     let same = by_size (members_view entries) c.len.result true c.is_catalogue_size.result
-        (members_len-members_view entries ∙ sym c.len.ensures.len) c.is_catalogue_size.ensures c.if-is_catalogue_size.true in
+    (members_len-members_view entries ∙ sym c.len.ensures.len) c.is_catalogue_size.ensures c.if-is_catalogue_size.true in
     IfOk-weaker c.messages.result _ _ (λ messages is. is ∙ sym same) c.messages.ensures
 
 pub returns-else-is_catalogue_size : goal.returns-else-is_catalogue_size
 returns-else-is_catalogue_size c =
     let entries = c.args.members.now.entries in
     sym (by_size (members_view entries) c.len.result false c.is_catalogue_size.result
-        (members_len-members_view entries ∙ sym c.len.ensures.len) c.is_catalogue_size.ensures c.if-is_catalogue_size.false)
+    (members_len-members_view entries ∙ sym c.len.ensures.len) c.is_catalogue_size.ensures c.if-is_catalogue_size.false)

@@ -23,7 +23,7 @@ one_more : (all : Option (List Pair)) (done next : List Pair) (id : List ℕ) (s
 one_more all done next id source more message so_far is then =
     so_far
     ∙ ap (λ (found : Option Pair). option_map (λ messages. done ++ messages)
-            (option_and_then (λ first. option_map (λ messages. first ∷ messages) (fields.messages_from more)) found)) (sym is)
+    (option_and_then (λ first. option_map (λ messages. first ∷ messages) (fields.messages_from more)) found)) (sym is)
     ∙ joined done message (fields.messages_from more)
     ∙ ap (λ (first : List Pair). option_map (λ messages. first ++ messages) (fields.messages_from more)) (sym then)
 
@@ -33,9 +33,12 @@ loop-id-preserved c =
     let id = string_bytes c.in-Some.id.now in
     let source = view c.in-Some.source.now in
     let is : Some c.in-Some-2.message ≡ fields.message_from id source =
-        sym c.in-Some-2.is ∙ c.in_ok-message.ensures ∙ ap (λ name. fields.message_from name source) c.as_str.ensures.value in
-    (tt, tt, one_more (fields.messages_from (members_view c.args.members.now.entries)) c.loop-id.messages c.push.new.self id source (members_view c.next.new.self)
-        c.in-Some-2.message
-        (c.loop-id.invariant.2
-            ∙ ap (λ entries. option_map (λ messages. c.loop-id.messages ++ messages) (fields.messages_from (members_view entries))) next)
-        is c.in_ok-push.ensures.ok)
+    sym c.in-Some-2.is ∙ c.in_ok-message.ensures ∙ ap (λ name. fields.message_from name source) c.as_str.ensures.value in (
+      tt,
+      tt,
+      one_more (fields.messages_from (members_view c.args.members.now.entries)) c.loop-id.messages c.push.new.self id source (members_view c.next.new.self)
+          c.in-Some-2.message
+          (c.loop-id.invariant.2
+          ∙ ap (λ entries. option_map (λ messages. c.loop-id.messages ++ messages) (fields.messages_from (members_view entries))) next)
+          is c.in_ok-push.ensures.ok,
+    )

@@ -10,4 +10,4 @@ invariant-loop-id l =
     (goal.iterator-loop-id).can_next l.id-iterator ×
     (goal.iterator-loop-id).is_finite l.id-iterator ×
     (fields.messages_from (members_view l.members.entries)
-        ≡ option_map (λ more. l.messages ++ more) (fields.messages_from (members_view l.id-iterator)))
+    ≡ option_map (λ more. l.messages ++ more) (fields.messages_from (members_view l.id-iterator)))

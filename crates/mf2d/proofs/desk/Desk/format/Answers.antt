@@ -1,4 +1,4 @@
-use Rattle.std.proofs.Common.{◌≡◌, ◌∙◌, ℕ, List, length, ap, subst}
+use Rattle.std.proofs.Common.{◌≡◌, ◌∙◌, ℕ, List, length, ap}
 use Rattle.std.proofs.lemmas.Result.{IfOk-weaker}
 use Rattle.mf_text.specs.declared.arguments.Argued.{Argued}
 use Rattle.mf_locale.specs.Chain.{chain_of}
@@ -21,5 +21,5 @@ newest_answer log desk newest tag id arguments was same =
 pub returns : goal.returns
 returns c =
     let same = newest_answer c.self.inside.log c.args.self.now c.self.inside.newest c.args.tag.now c.args.id.now c.args.arguments.now
-        c.self.invariant c.self.view_is in
+    c.self.invariant c.self.view_is in
     IfOk-weaker c.reply_line.result _ _ (λ line is. is ∙ ap reply_line (c.in_ok-reply.ensures ∙ same)) c.reply_line.ensures

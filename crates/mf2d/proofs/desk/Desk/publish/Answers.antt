@@ -1,4 +1,4 @@
-use Rattle.std.proofs.Common.{◌≡◌, ◌∙◌, ℕ, ◌+◌, true, List, [], ◌∷◌, ◌++◌, length, encode_utf8_all, ap, sym, subst}
+use Rattle.std.proofs.Common.{◌≡◌, ◌∙◌, ℕ, ◌+◌, List, [], ◌∷◌, ◌++◌, length, encode_utf8_all, ap, sym, subst}
 use Rattle.std.specs.Bool.{MatchBool}
 use Rattle.mf_edition.specs.Edition.{EditionState, edition_of, next_edition}
 use Rattle.mf_edition.specs.declared.change.Change.{Change}
@@ -7,8 +7,7 @@ use Rattle.mf_wire.specs.Replies.{reply_line}
 use Rattle.mf_wire.specs.declared.reply.Op.TheVariants as op
 use Rattle.mf_wire.specs.declared.reply.Reply.TheVariants.{Accepted, NotBuilt}
 use Rattle.mf2d.proofs.Editions.{newest-push, newest-number}
-use Rattle.mf2d.specs.Answers.{is_flat_change}
-use Rattle.mf2d.specs.Served.{Desk, Accepts, Replies, next_entry}
+use Rattle.mf2d.specs.Served.{Desk, Accepts, Replies}
 use Rattle.mf2d.proofs.desk.Desk.publish.Goals as goal
 
 -- the edition after the newest one is the newest of the log with the entry
@@ -28,17 +27,17 @@ accepted : (log after desk : Desk) (change : Change) (number : ℕ) (reply : Lis
     → reply ≡ reply_line (Accepted number op.Publish) → after ≡ log ++ record { caller = 0; nth = number; change = change } ∷ []
     → Accepts change desk reply after
 accepted log after desk change number reply same is line pushed = (
-    line ∙ ap (λ n. reply_line (Accepted n op.Publish)) (is ∙ ap (λ l. length l + 1) same),
-    pushed
-    ∙ ap (λ l. l ++ record { caller = 0; nth = number; change = change } ∷ []) same
-    ∙ ap (λ n. desk ++ record { caller = 0; nth = n; change = change } ∷ []) (is ∙ ap (λ l. length l + 1) same),
-  )
+  line ∙ ap (λ n. reply_line (Accepted n op.Publish)) (is ∙ ap (λ l. length l + 1) same),
+  pushed
+      ∙ ap (λ l. l ++ record { caller = 0; nth = number; change = change } ∷ []) same
+      ∙ ap (λ n. desk ++ record { caller = 0; nth = n; change = change } ∷ []) (is ∙ ap (λ l. length l + 1) same),
+)
 
 pub invariant_of-self-2 : goal.invariant_of-self-2
 invariant_of-self-2 c =
     still_newest c.self.inside.log c.push.new.self c.self.inside.newest c.in_ok-newest.newest
-        (record { caller = 0; nth = c.number-number.result; change = c.args.change })
-        c.self.invariant c.in_ok-newest.ensures c.in_default.ensures.ok
+    (record { caller = 0; nth = c.number-number.result; change = c.args.change })
+    c.self.invariant c.in_ok-newest.ensures c.in_default.ensures.ok
 
 pub returns-clause-ok : goal.returns-clause-ok
 returns-clause-ok c =
@@ -49,8 +48,8 @@ returns-clause-ok c =
     let after = c.push.new.self in
     let change = c.args.change in
     let so : Accepts change desk reply after =
-        accepted log after desk change number reply c.self.view_is
-            (next_number log c.self.inside.newest c.in_ok-newest.newest change number c.self.invariant c.in_ok-newest.ensures c.number-number.ensures)
-            c.in_ok-reply.ensures c.in_default.ensures.ok in
+    accepted log after desk change number reply c.self.view_is
+    (next_number log c.self.inside.newest c.in_ok-newest.newest change number c.self.invariant c.in_ok-newest.ensures c.number-number.ensures)
+    c.in_ok-reply.ensures c.in_default.ensures.ok in
     subst (λ test. MatchBool test (Accepts change desk reply after) (Replies NotBuilt desk reply after))
-        (sym c.if-not-branch.false ∙ c.in_ok-is_flat.ensures) so
+    (sym c.if-not-branch.false ∙ c.in_ok-is_flat.ensures) so

@@ -1,7 +1,6 @@
--- The copies share the items of the edition before, in the same order.
-use Rattle.std.proofs.Common.{◌≡◌, ◌<◌, ◌^◌, List, map, length, ap, sym, ◌∙◌, subst}
+-- The copy shares the items of the edition before.
+use Rattle.std.proofs.Common.{◌≡◌, ◌<◌, ◌^◌, map, length, ap, sym, ◌∙◌, subst}
 use Rattle.std.proofs.lemmas.List.{length-map}
-use Rattle.std.proofs.lemmas.List.Elements.{same_from_all_zip}
 use Rattle.std.specs.Arc.{arc_value}
 use Rattle.mf_edition.specs.Edition.{put_all}
 use Rattle.mf_edition.specs.Messages.{in_byte_order}
@@ -9,34 +8,30 @@ use Rattle.mf_edition.specs.Order.{names_of, IsOrder}
 use Rattle.mf_edition.specs.Views.{entry_pair, item_values}
 use Rattle.mf_edition.proofs.Growth.{values_shared}
 use Rattle.mf_edition.proofs.edition.Edition.with_messages.Goals as goal
-use Rattle.mf_edition.proofs.edition.Edition.with_messages.Goals.{In_ok-order}
-
-shared : (c : In_ok-order) → item_values c.in_ok-items.items.items ≡ c.args.self.now.items
-shared c = values_shared _ _ c.in_ok-items.ensures.cases.0 ∙ ap (λ edition. edition.items) c.self.view_is
+use Rattle.mf_edition.proofs.edition.Edition.with_messages.Goals.{In_ok-items}
 
 -- what the messages are put into, and what comes of it
-made : (c : In_ok-order) → put_all (item_values c.in_ok-items.items.items) c.args.tag.now (map entry_pair c.in_ok-sources.sources.entries) ≡ put_all c.args.self.now.items c.args.tag.now (in_byte_order c.args.messages.now)
+made : (c : In_ok-items) → put_all (item_values c.in_ok-items.items.items) c.args.tag.now (map entry_pair c.in_ok-sources.sources.entries) ≡ put_all c.args.self.now.items c.args.tag.now (in_byte_order c.args.messages.now)
 made c =
-    ap (put_all (item_values c.in_ok-items.items.items) c.args.tag.now) c.in_ok-sources.ensures
-    ∙ ap (λ items. put_all items c.args.tag.now (in_byte_order c.args.messages.now)) (shared c)
+    ap (put_all (item_values c.in_ok-items.items.items) c.args.tag.now) c.in_ok-sources.ensures.sources
+    ∙ ap (λ items. put_all items c.args.tag.now (in_byte_order c.args.messages.now)) (values_shared _ _ c.in_ok-items.ensures.cases.0 ∙ ap (λ edition. edition.items) c.self.view_is)
 
 pub put_messages-requires-clause-order : goal.put_messages-requires-clause-order
 put_messages-requires-clause-order c =
-    let order = same_from_all_zip _ c.self.inside.order.items c.in_ok-order.order.items c.in_ok-order.ensures.cases.0 (λ x y same. same) in
     let items = values_shared _ _ c.in_ok-items.ensures.cases.0 in
-    subst (λ o. IsOrder (names_of (item_values c.in_ok-items.items.items)) o) (sym order)
+    subst (λ order. IsOrder (names_of (item_values c.in_ok-items.items.items)) order) (sym c.deref.ensures.value)
     (subst (λ its. IsOrder (names_of its) c.self.inside.order.items) (sym items) c.self.invariant.ordered)
 
 pub put_messages-requires-clause-room : goal.put_messages-requires-clause-room
-put_messages-requires-clause-room c = subst (λ items. length items < 2 ^ 32) (sym (made (goal.at.put_messages-requires-clause-order c).In_ok-order)) c.requires.few
+put_messages-requires-clause-room c = subst (λ items. length items < 2 ^ 32) (sym (made (goal.at.put_messages-requires-clause-room c).In_ok-items)) c.requires.few
 
 pub invariant_of-result : goal.invariant_of-result
 invariant_of-result c =
-    let items = c.in_ok-put_messages.ensures.items ∙ made (goal.at.invariant_of-result c).In_ok-order in
+    let items = c.in_ok-order.ensures.items ∙ made (goal.at.invariant_of-result c).In_ok-items in
     record {
       few = subst (λ n. n < 2 ^ 32) (length-map c.put_messages.new.items.items arc_value) (subst (λ its. length its < 2 ^ 32) (sym items) c.requires.few);
-      ordered = c.in_ok-put_messages.ensures.order;
+      ordered = c.in_ok-order.ensures.order;
     }
 
 pub returns-clause-items : goal.returns-clause-items
-returns-clause-items c = c.in_ok-put_messages.ensures.items ∙ made (goal.at.returns-clause-items c).In_ok-order
+returns-clause-items c = c.in_ok-order.ensures.items ∙ made (goal.at.returns-clause-items c).In_ok-items
