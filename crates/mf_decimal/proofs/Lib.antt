@@ -1,0 +1,14 @@
+pub mod Spelling
+pub mod Tens
+pub mod DigitSteps
+pub mod Placing
+pub mod Values
+pub mod Texts
+pub mod Cutting
+pub mod Writing
+pub mod Nearest
+pub mod Units
+pub mod Dropped
+pub mod Showing
+pub mod Unique
+pub mod ReadBack

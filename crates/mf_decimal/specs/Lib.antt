@@ -1,0 +1,9 @@
+pub mod Amount
+pub mod Literal
+pub mod Whole
+pub mod Text
+pub mod Rounding
+pub mod Parts
+pub mod Significand
+pub mod Dropping
+pub mod Laws
