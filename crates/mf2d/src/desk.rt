@@ -69,8 +69,7 @@ impl Desk {
         if !self.newest.has_room(&change) {
             return Err(AllocError);
         }
-        let newest = self.newest.next(&change)?;
-        let number = newest.number();
+        let number = self.newest.number() + 1;
         let reply = reply_line(
             alloc,
             &Reply::Accepted {
@@ -83,10 +82,9 @@ impl Desk {
             nth: number,
             change,
         };
-        if let Err(PublishError::OutOfMemory) = self.log.push(entry) {
+        if let Err(PublishError::OutOfMemory) = self.log.publish(&mut self.newest, entry) {
             return Err(AllocError);
         }
-        self.newest = newest;
         Ok(reply)
     }
 

@@ -10,7 +10,7 @@ fn a_number_literal_is_its_value_by_place(rt: HostRuntime) -> Result<(), Fail> {
         ("-0", false, 0, 0),
         ("-0.0", false, 0, 0),
         ("0.000", false, 0, 0),
-        ("0e999999999999", false, 0, 0),
+        ("0e9999999999999999999999", false, 0, 0),
         ("0.00e-999999999999", false, 0, 0),
         ("1e-3", false, 1, 3),
         ("1E+5", false, 100000, 0),
@@ -21,7 +21,10 @@ fn a_number_literal_is_its_value_by_place(rt: HostRuntime) -> Result<(), Fail> {
         ("12.34e-1", false, 1234, 3),
         ("1e35", false, 100000000000000000000000000000000000, 0),
         ("1e-36", false, 1, 36),
+        ("-1e-36", true, 1, 36),
+        ("-1e35", true, 100000000000000000000000000000000000, 0),
         ("10e-37", false, 1, 36),
+        ("1e-0036", false, 1, 36),
         ("0.0000000000000000000000000000000000001e1", false, 1, 36),
         (
             "999999999999999999999999999999999999",
@@ -77,6 +80,9 @@ fn any_other_text_is_no_number(rt: HostRuntime) {
 fn a_number_past_36_digits_is_too_wide(rt: HostRuntime) {
     for text in [
         "1e36",
+        "-1e36",
+        "1e9999999999999999999999",
+        "-1e-9999999999999999999999",
         "9999999999999999999999999999999999999",
         "1000000000000000000000000000000000000",
         "1e-37",
@@ -96,6 +102,8 @@ fn a_number_past_36_digits_is_too_wide(rt: HostRuntime) {
 fn fraction_digits_are_rounded_to_even(rt: HostRuntime) -> Result<(), Fail> {
     for (text, min, max, negative, whole, fraction, fraction_len) in [
         ("1234.5", 0, 3, false, 1234, 5, 1),
+        ("1234", 0, 3, false, 1234, 0, 0),
+        ("5", 0, 3, false, 5, 0, 0),
         ("2.5", 0, 0, false, 2, 0, 0),
         ("3.5", 0, 0, false, 4, 0, 0),
         ("-0.4", 0, 0, false, 0, 0, 0),
@@ -113,6 +121,25 @@ fn fraction_digits_are_rounded_to_even(rt: HostRuntime) -> Result<(), Fail> {
         ("1", 2, 2, false, 1, 0, 2),
         ("1.999", 0, 2, false, 2, 0, 0),
         ("1.999", 1, 2, false, 2, 0, 1),
+        ("-0.9996", 2, 3, true, 1, 0, 2),
+        (
+            "0.999999999999999999999999999999999999",
+            20,
+            20,
+            false,
+            1,
+            0,
+            20,
+        ),
+        (
+            "-999999999999999999.999999999999999999",
+            0,
+            3,
+            true,
+            1000000000000000000,
+            0,
+            0,
+        ),
         (
             "0.123456789012345678901234567890123456",
             20,
@@ -248,10 +275,16 @@ fn ties_go_to_the_even_digit_at_every_place(rt: HostRuntime) -> Result<(), Fail>
             max: place - 1,
         };
         for (tie, even) in [
+            ("5", "0"),
+            ("15", "2"),
             ("25", "2"),
             ("35", "4"),
             ("-45", "-4"),
             ("55", "6"),
+            ("-65", "-6"),
+            ("75", "8"),
+            ("85", "8"),
+            ("95", "10"),
             ("995", "100"),
         ] {
             let tie = format!(in alloc; "{tie}e-{place}")?;
@@ -259,6 +292,36 @@ fn ties_go_to_the_even_digit_at_every_place(rt: HostRuntime) -> Result<(), Fail>
             let shown = read(tie.as_str())?.round(digits);
             assert_eq!(rt; shown, read(even.as_str())?.round(digits), "at {tie}");
         }
+    }
+    Ok(())
+}
+
+#[test]
+fn ties_go_to_the_even_digit_of_every_significant_place(rt: HostRuntime) -> Result<(), Fail> {
+    let alloc = rt.alloc();
+    let whole = Digits::Fraction { min: 0, max: 0 };
+    for len in 2..22u32 {
+        let digits = Digits::Significant { min: 1, max: len };
+        let width = len as usize;
+        for (tie, even) in [(5, 0), (15, 20), (25, 20), (35, 40), (75, 80), (85, 80)] {
+            let tie = format!(in alloc; "6{tie:0width$}")?;
+            let even = format!(in alloc; "6{even:0width$}")?;
+            let shown = read(tie.as_str())?.round(digits);
+            assert_eq!(rt; shown, read(even.as_str())?.round(whole), "at {tie}");
+        }
+    }
+    Ok(())
+}
+
+#[test]
+fn a_carry_runs_through_all_nines(rt: HostRuntime) -> Result<(), Fail> {
+    let alloc = rt.alloc();
+    let digits = Digits::Fraction { min: 0, max: 0 };
+    for len in 1..36usize {
+        let nines = format!(in alloc; "{:9>len$}.5", "")?;
+        let power = format!(in alloc; "1e{len}")?;
+        let shown = read(nines.as_str())?.round(digits);
+        assert_eq!(rt; shown, read(power.as_str())?.round(digits), "at {nines}");
     }
     Ok(())
 }

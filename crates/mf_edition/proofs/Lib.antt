@@ -5,3 +5,4 @@ pub mod Pushed
 pub mod Growth
 pub mod EditionLaws
 pub mod Merged
+pub mod InPlace

@@ -11,16 +11,13 @@ use Rattle.mf_text.specs.declared.pair.Pair.{Pair}
 use Rattle.mf_edition.specs.declared.item.Item.{Item}
 use Rattle.mf_edition.specs.Edition.{is_named, put}
 use Rattle.mf_edition.specs.Order.{name_at, name_cmp, name_of, names_of, IsGap, IsOrder, Name}
+use Rattle.mf_edition.specs.Views.{item_of}
 use Rattle.mf_edition.proofs.Placed.{has_name, name_cmp_total, no_item}
-
--- the item that a message makes
-abbrev pub made : List ℕ → Pair → Item
-made tag message = record { tag = tag; id = message.name; source = message.value }
 
 -- a message that is there gets the new source
 pub put_found : (items : List Item) (tag : List ℕ) (message : Pair) (at : ℕ) → at < length items
     → ((k : ℕ) → k < at → is_named tag message.name (get_or items k no_item) ≡ false) → is_named tag message.name (get_or items at no_item) ≡ true
-    → put items tag message ≡ set items at (made tag message)
+    → put items tag message ≡ set items at (item_of tag message)
 put_found [] tag message at inside before here = absurd (omega arith)
 put_found (item ∷ items) tag message zero inside before here =
     ap (λ b. cond b (record item { source = message.value } ∷ items) (item ∷ put items tag message)) here
@@ -32,7 +29,7 @@ put_found (item ∷ items) tag message (suc at) inside before here =
 -- a new one goes to the end
 pub put_gap : (items : List Item) (tag : List ℕ) (message : Pair)
     → ((k : ℕ) → k < length items → is_named tag message.name (get_or items k no_item) ≡ false)
-    → put items tag message ≡ items ++ made tag message ∷ []
+    → put items tag message ≡ items ++ item_of tag message ∷ []
 put_gap [] tag message none = refl
 put_gap (item ∷ items) tag message none =
     ap (λ b. cond b (record item { source = message.value } ∷ items) (item ∷ put items tag message)) (none 0 (omega arith))

@@ -1,8 +1,9 @@
-ghost use Rattle.std.specs.Prelude.{◌≡◌, ◌↔◌, ◌+◌, ◌<◌, ◌^◌, length, position, slice_get, IfOk, IsTrue};
+ghost use Rattle.std.specs.Prelude.{◌≡◌, ◌↔◌, ◌+◌, ◌<◌, ◌^◌, length, position, slice_get, IfOk, IsTrue, OnErr, OnOk};
 ghost use Rattle.std.specs.Option.{option_copied};
 ghost use Rattle.mf_edition.specs.Edition.{empty_edition, is_named, message_count, next_edition, put_all, HasRoom};
 ghost use Rattle.mf_edition.specs.Messages.{in_byte_order};
 
+use crate::in_place::{put_all_in_place, shared_items};
 use crate::order::{place_of, put_messages};
 use crate::publication::sources_by_id;
 use crate::{Change, Item};
@@ -74,6 +75,34 @@ impl Edition {
             items,
             order,
         })
+    }
+
+    /// Becomes the edition after one more change. What it needs is taken before any message is changed.
+    pub fn advance(&mut self, change: &Change) -> Result<(), AllocError>
+        requires { HasRoom self.old change.now }
+        ensures ok { OnOk result (self.new ≡ next_edition self.old change.now) }
+        ensures err { OnErr result (self.new ≡ self.old) }
+    {
+        match change {
+            Change::Catalogue { tag, messages } => self.put_messages(tag, messages.as_slice()),
+        }
+    }
+
+    /// Becomes the edition after a publication of messages.
+    fn put_messages(&mut self, tag: &Tag, messages: &[Pair]) -> Result<(), AllocError>
+        requires few { length (put_all self.old.items tag.now (in_byte_order messages.now)) < 2 ^ 32 }
+        requires number { self.old.number + 1 < 2 ^ 64 }
+        ensures number { OnOk result (self.new.number ≡ self.old.number + 1) }
+        ensures items { OnOk result (self.new.items ≡ put_all self.old.items tag.now (in_byte_order messages.now)) }
+        ensures err { OnErr result (self.new ≡ self.old) }
+    {
+        let sources = sources_by_id(self.alloc, messages)?;
+        let new = shared_items(self.alloc, tag, &sources)?;
+        self.items.reserve(new.len())?;
+        self.order.reserve(new.len())?;
+        put_all_in_place(&mut self.items, &mut self.order, new);
+        self.number += 1;
+        Ok(())
     }
 
     /// Whether there surely are numbers for one more edition and for each message of its change.

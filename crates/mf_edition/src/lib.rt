@@ -3,6 +3,7 @@
 
 mod change;
 mod edition;
+mod in_place;
 mod item;
 mod laws;
 mod log;

@@ -1,8 +1,8 @@
 ghost use Rattle.std.specs.Prelude.{◌≡◌, ◌++◌, [], ◌∷◌, length, slice_get, OnOk, OnErr};
 ghost use Rattle.std.specs.Option.{option_copied};
+ghost use Rattle.mf_edition.specs.Edition.{next_edition, HasRoom};
 
-use crate::Entry;
-use mf_text::List;
+use crate::{Edition, Entry};
 use std::alloc::{AllocError, Global};
 use std::marker::Model;
 
@@ -27,7 +27,7 @@ impl From<AllocError> for PublishError {
 /// The accepted changes in the order in which they were accepted, seen as the list of their entries.
 #[derive(Debug, Drop)]
 pub struct Log {
-    entries: List<Entry>,
+    entries: Vec<Entry>,
 }
 
 impl Model for Log {
@@ -36,7 +36,7 @@ impl Model for Log {
 
     ghost Value = { Listed Entry };
 
-    ghost view = { λ l. l.entries };
+    ghost view = { λ l. l.entries.items };
 }
 
 impl Log {
@@ -45,7 +45,7 @@ impl Log {
         ensures { result ≡ [] }
     {
         Log {
-            entries: List::new(alloc),
+            entries: Vec::new(alloc),
         }
     }
 
@@ -68,7 +68,36 @@ impl Log {
         ensures ok { OnOk result (self.new ≡ self.old ++ entry ∷ []) }
         ensures err { OnErr result (self.new ≡ self.old) }
     {
-        self.entries.push(entry)?;
-        Ok(())
+        match self.entries.push(entry) {
+            Ok(()) => Ok(()),
+            Err(refused) => Err(AllocError::from(refused).into()),
+        }
     }
+
+    /// Puts an entry at the end, and its change into the newest edition. After an error both are as they were.
+    pub fn publish(&mut self, newest: &mut Edition, entry: Entry) -> Result<(), PublishError>
+        requires { HasRoom newest.old entry.change }
+        ensures log { OnOk result (self.new ≡ self.old ++ entry ∷ []) }
+        ensures newest { OnOk result (newest.new ≡ next_edition newest.old entry.change) }
+        ensures err { OnErr result ((self.new ≡ self.old) × (newest.new ≡ newest.old)) }
+    {
+        publish_entry(&mut self.entries, newest, entry)
+    }
+}
+
+/// The same over the entries themselves. Room for the entry is made before the edition changes.
+fn publish_entry(
+    entries: &mut Vec<Entry>,
+    newest: &mut Edition,
+    entry: Entry,
+) -> Result<(), PublishError>
+    requires { HasRoom newest.old entry.change }
+    ensures entries { OnOk result (entries.new.items ≡ entries.old.items ++ entry ∷ []) }
+    ensures newest { OnOk result (newest.new ≡ next_edition newest.old entry.change) }
+    ensures err { OnErr result ((entries.new.items ≡ entries.old.items) × (newest.new ≡ newest.old)) }
+{
+    entries.reserve(1)?;
+    newest.advance(&entry.change)?;
+    entries.push_reserved(entry);
+    Ok(())
 }

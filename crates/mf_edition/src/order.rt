@@ -6,8 +6,8 @@ ghost use Rattle.std.specs.declared.cmp.Ordering.TheVariants.{Less};
 ghost use Rattle.std.specs.List.Sorted.{IsStrictlySortedBy};
 ghost use Rattle.mf_text.specs.Order.{byte_cmp};
 ghost use Rattle.mf_edition.specs.Edition.{is_named, put, put_all};
-ghost use Rattle.mf_edition.specs.Order.{name_cmp, name_of, names_of, place_cmp, AreBelow, IsAscending, IsFound, IsGap, IsOrder, Name};
-ghost use Rattle.mf_edition.specs.Views.{entry_pair, item_values, message_of};
+ghost use Rattle.mf_edition.specs.Order.{name_cmp, name_of, place_cmp, AreBelow, IsAscending, IsFound, IsGap, IsOrder, Name};
+ghost use Rattle.mf_edition.specs.Views.{entry_pair, item_values, message_of, names_in};
 
 use crate::Item;
 use crate::item::{compare_names, shared_item};
@@ -19,16 +19,18 @@ use std::collections::BTreeMap;
 use std::sync::Arc;
 
 /// Where the place of a message stands in the order, or where it would have to stand.
-fn search(items: &[Arc<Item>], order: &[u32], tag: &Tag, id: &Text) -> Result<usize, usize>
-    requires { IsAscending (names_of (item_values items.now)) order.now }
-    ensures { MatchResult result (λ at. IsFound (names_of (item_values items.now)) order.now (tag.now, id.now) at) (λ at. IsGap (names_of (item_values items.now)) order.now (tag.now, id.now) at) }
+pub fn search(items: &[Arc<Item>], order: &[u32], tag: &Tag, id: &Text) -> Result<usize, usize>
+    requires { IsAscending (names_in items.now) order.now }
+    ensures { MatchResult result
+        (λ at. IsFound (names_in items.now) order.now (tag.now, id.now) at)
+        (λ at. IsGap (names_in items.now) order.now (tag.now, id.now) at) }
 {
     order.binary_search_by(|place| compare_place(items, *place, tag, id))
 }
 
 /// How the message at a place compares with a tag and an id; past the last place it counts as less.
 fn compare_place(items: &[Arc<Item>], place: u32, tag: &Tag, id: &Text) -> Ordering
-    ensures { result ≡ place_cmp (names_of (item_values items.now)) (tag.now, id.now) place }
+    ensures { result ≡ place_cmp (names_in items.now) (tag.now, id.now) place }
 {
     match items.get(place as usize) {
         Some(item) => compare_names(item, tag, id),
@@ -38,7 +40,7 @@ fn compare_place(items: &[Arc<Item>], place: u32, tag: &Tag, id: &Text) -> Order
 
 /// The place of the message of a tag and an id, if there is one.
 pub fn place_of(items: &[Arc<Item>], order: &[u32], tag: &Tag, id: &Text) -> Option<u32>
-    requires { IsOrder (names_of (item_values items.now)) order.now }
+    requires { IsOrder (names_in items.now) order.now }
     ensures { result ≡ position (is_named tag.now id.now) (item_values items.now) }
 {
     match search(items, order, tag, id) {
@@ -57,13 +59,15 @@ fn put_message(
     rest: &[u32],
     item: Arc<Item>,
 ) -> Result<usize, AllocError>
-    requires order { IsOrder (names_of (item_values items.old.items)) (order.old.items ++ rest.now) }
-    requires below { AreBelow (names_of (item_values items.old.items)) order.old.items (name_of (arc_value item)) }
+    requires order { IsOrder (names_in items.old.items) (order.old.items ++ rest.now) }
+    requires below { AreBelow (names_in items.old.items) order.old.items (name_of (arc_value item)) }
     requires room { length items.old.items < 2 ^ 32 }
-    ensures items { OnOk result (item_values items.new.items ≡ put (item_values items.old.items) (arc_value item).tag (message_of (arc_value item))) }
+    ensures items { let value = arc_value item in
+        OnOk result (item_values items.new.items ≡ put (item_values items.old.items) value.tag (message_of value)) }
     ensures moved { IfOk result (λ moved. moved ≤ length rest.now) }
-    ensures order { IfOk result (λ moved. IsOrder (names_of (item_values items.new.items)) (order.new.items ++ drop moved rest.now)) }
-    ensures below { OnOk result ((next : Name) → name_cmp (name_of (arc_value item)) next ≡ Less → AreBelow (names_of (item_values items.new.items)) order.new.items next) }
+    ensures order { IfOk result (λ moved. IsOrder (names_in items.new.items) (order.new.items ++ drop moved rest.now)) }
+    ensures below { OnOk result ((next : Name) → name_cmp (name_of (arc_value item)) next ≡ Less
+        → AreBelow (names_in items.new.items) order.new.items next) }
 {
     match search(items, rest, &item.tag, &item.id) {
         Ok(at) => {
@@ -90,11 +94,13 @@ pub fn put_messages(
     tag: &Tag,
     sources: &BTreeMap<&Text, &Text>,
 ) -> Result<Vec<u32>, AllocError>
-    requires order { IsOrder (names_of (item_values items.old.items)) order.now }
+    requires order { IsOrder (names_in items.old.items) order.now }
     requires sorted { IsStrictlySortedBy (λ a b. byte_cmp a.now b.now) (keys sources.now) }
-    requires room { length (put_all (item_values items.old.items) tag.now (map entry_pair sources.now.entries)) < 2 ^ 32 }
-    ensures items { OnOk result (item_values items.new.items ≡ put_all (item_values items.old.items) tag.now (map entry_pair sources.now.entries)) }
-    ensures order { IfOk result (λ merged. IsOrder (names_of (item_values items.new.items)) merged.items) }
+    requires room { let messages = map entry_pair sources.now.entries in
+        length (put_all (item_values items.old.items) tag.now messages) < 2 ^ 32 }
+    ensures items { let messages = map entry_pair sources.now.entries in
+        OnOk result (item_values items.new.items ≡ put_all (item_values items.old.items) tag.now messages) }
+    ensures order { IfOk result (λ merged. IsOrder (names_in items.new.items) merged.items) }
 {
     let mut merged = Vec::new(alloc);
     let mut moved = 0;

@@ -34,6 +34,18 @@ fn published(alloc: Global, publications: &[(&str, Messages)]) -> Result<Edition
     Ok(edition)
 }
 
+/// The same edition, made in place.
+fn advanced(alloc: Global, publications: &[(&str, Messages)]) -> Result<Edition, Fail> {
+    let mut edition = Edition::empty(alloc)?;
+    for (tag, messages) in publications {
+        let change = catalogue(alloc, tag, messages)?;
+        if edition.has_room(&change) {
+            edition.advance(&change)?;
+        }
+    }
+    Ok(edition)
+}
+
 /// The messages of an edition in the order of their places.
 fn listed(alloc: Global, edition: &Edition) -> Result<String, Fail> {
     let mut text = String::new(alloc);
@@ -87,6 +99,9 @@ fn messages_stand_where_they_were_put_first(rt: HostRuntime) -> Result<(), Fail>
         let edition = published(rt.alloc(), publications)?;
         assert_eq!(rt; listed(rt.alloc(), &edition)?.as_str(), expected);
         assert_eq!(rt; edition.number(), publications.len() as u64);
+        let edition = advanced(rt.alloc(), publications)?;
+        assert_eq!(rt; listed(rt.alloc(), &edition)?.as_str(), expected);
+        assert_eq!(rt; edition.number(), publications.len() as u64);
     }
     Ok(())
 }
@@ -99,6 +114,7 @@ fn a_message_is_found_by_its_tag_and_id(rt: HostRuntime) -> Result<(), Fail> {
         ("en", &[("a", ""), ("c", ""), ("d", ""), ("g", "")]),
     ];
     let edition = published(rt.alloc(), &publications)?;
+    let in_place = advanced(rt.alloc(), &publications)?;
     let rows = [
         ("en", "b", Some(0)),
         ("en", "d", Some(1)),
@@ -117,6 +133,7 @@ fn a_message_is_found_by_its_tag_and_id(rt: HostRuntime) -> Result<(), Fail> {
         let tag = read_tag(rt.alloc(), tag)?;
         let id = Text::of(rt.alloc(), id)?;
         assert_eq!(rt; edition.find(&tag, &id), place, "{}", id.as_str());
+        assert_eq!(rt; in_place.find(&tag, &id), place, "{}", id.as_str());
     }
     Ok(())
 }
@@ -136,5 +153,16 @@ fn a_log_grows_at_its_end(rt: HostRuntime) -> Result<(), Fail> {
     }
     assert_eq!(rt; log.get(1).map(|entry| entry.nth), Some(2));
     assert!(rt; log.get(3).is_none());
+    let mut newest = Edition::empty(rt.alloc())?;
+    let change = catalogue(rt.alloc(), "en", &[("a", "c")])?;
+    let entry = Entry {
+        caller: 7,
+        nth: 4,
+        change,
+    };
+    assert!(rt; newest.has_room(&entry.change));
+    assert_eq!(rt; log.publish(&mut newest, entry), Ok(()));
+    assert_eq!(rt; log.len(), 4);
+    assert_eq!(rt; newest.number(), 1);
     Ok(())
 }

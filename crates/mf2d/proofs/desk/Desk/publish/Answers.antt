@@ -17,11 +17,9 @@ still_newest log after old new entry was next pushed =
     next ∙ ap (λ edition. next_edition edition entry.change) was ∙ sym (newest-push log entry) ∙ ap (λ l. edition_of l (length l)) (sym pushed)
 
 -- its number is one more than the entries
-next_number : (log : Desk) (old new : EditionState) (change : Change) (number : ℕ) → old ≡ edition_of log (length log) → new ≡ next_edition old change
-    → number ≡ new.number → number ≡ length log + 1
-next_number log old new change number was next is =
-    is ∙ ap (λ (edition : EditionState). edition.number) next
-    ∙ ap (λ (edition : EditionState). edition.number + 1) was ∙ ap (λ n. n + 1) (newest-number log)
+next_number : (log : Desk) (newest : EditionState) (number : ℕ) → newest ≡ edition_of log (length log) → number ≡ newest.number
+    → number + 1 ≡ length log + 1
+next_number log newest number was is = ap (λ n. n + 1) (is ∙ ap (λ (edition : EditionState). edition.number) was ∙ newest-number log)
 
 accepted : (log after desk : Desk) (change : Change) (number : ℕ) (reply : List ℕ) → log ≡ desk → number ≡ length log + 1
     → reply ≡ reply_line (Accepted number op.Publish) → after ≡ log ++ record { caller = 0; nth = number; change = change } ∷ []
@@ -35,21 +33,20 @@ accepted log after desk change number reply same is line pushed = (
 
 pub invariant_of-self-2 : goal.invariant_of-self-2
 invariant_of-self-2 c =
-    still_newest c.self.inside.log c.push.new.self c.self.inside.newest c.in_ok-newest.newest
-    (record { caller = 0; nth = c.number-number.result; change = c.args.change })
-    c.self.invariant c.in_ok-newest.ensures c.in_default.ensures.ok
+    still_newest c.self.inside.log c.publish.new.self c.self.inside.newest c.publish.new.newest
+    (record { caller = 0; nth = c.number-number.result + 1; change = c.args.change })
+    c.self.invariant c.in_default.ensures.newest c.in_default.ensures.log
 
 pub returns-clause-ok : goal.returns-clause-ok
 returns-clause-ok c =
     let log = c.self.inside.log in
-    let number = c.number-number.result in
     let desk = c.args.self.now in
     let reply = encode_utf8_all c.in_ok-reply.reply in
-    let after = c.push.new.self in
+    let after = c.publish.new.self in
     let change = c.args.change in
     let so : Accepts change desk reply after =
-    accepted log after desk change number reply c.self.view_is
-    (next_number log c.self.inside.newest c.in_ok-newest.newest change number c.self.invariant c.in_ok-newest.ensures c.number-number.ensures)
-    c.in_ok-reply.ensures c.in_default.ensures.ok in
+    accepted log after desk change (c.number-number.result + 1) reply c.self.view_is
+    (next_number log c.self.inside.newest c.number-number.result c.self.invariant c.number-number.ensures)
+    c.in_ok-reply.ensures c.in_default.ensures.log in
     subst (λ test. MatchBool test (Accepts change desk reply after) (Replies NotBuilt desk reply after))
     (sym c.if-not-branch.false ∙ c.in_ok-is_flat.ensures) so

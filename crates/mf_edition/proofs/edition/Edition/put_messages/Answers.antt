@@ -1,0 +1,34 @@
+-- The items that were made are the messages in the order of their ids.
+use Rattle.std.proofs.Common.{◌≡◌, ◌<◌, ◌^◌, map, length, ap, sym, ◌∙◌, subst}
+use Rattle.std.proofs.lemmas.List.{length-map}
+use Rattle.std.specs.Arc.{arc_value}
+use Rattle.mf_edition.specs.Edition.{put_all}
+use Rattle.mf_edition.specs.Messages.{in_byte_order}
+use Rattle.mf_edition.specs.Views.{item_of, item_values, put_items}
+use Rattle.mf_edition.proofs.InPlace.{put_items-made}
+use Rattle.mf_edition.proofs.edition.Edition.put_messages.Goals as goal
+use Rattle.mf_edition.proofs.edition.Edition.put_messages.Goals.{In_ok-reserve}
+
+-- what comes of putting them in
+made : (c : In_ok-reserve) → put_items (item_values c.reserve.new.self.items) (item_values c.in_ok-new.new.items) ≡ put_all c.args.self.now.items c.args.tag.now (in_byte_order c.args.messages.now)
+made c =
+    let before = item_values c.self.inside.items.items in
+    ap (λ items. put_items (item_values items) (item_values c.in_ok-new.new.items)) c.in_ok-reserve.ensures.items
+    ∙ ap (put_items before) (c.in_ok-new.ensures ∙ ap (map (item_of c.args.tag.now)) c.in_ok-sources.ensures.sources)
+    ∙ put_items-made before c.args.tag.now (in_byte_order c.args.messages.now)
+    ∙ ap (λ edition. put_all edition.items c.args.tag.now (in_byte_order c.args.messages.now)) c.self.view_is
+
+pub put_all_in_place-requires-clause-few : goal.put_all_in_place-requires-clause-few
+put_all_in_place-requires-clause-few c =
+    subst (λ items. length items < 2 ^ 32) (sym (made (goal.at.put_all_in_place-requires-clause-few c).In_ok-reserve)) c.requires.few
+
+pub invariant_of-self-2 : goal.invariant_of-self-2
+invariant_of-self-2 c =
+    let items = c.put_all_in_place.ensures.items ∙ made (goal.at.invariant_of-self-2 c).In_ok-reserve in
+    record {
+      few = subst (λ n. n < 2 ^ 32) (length-map c.put_all_in_place.new.items.items arc_value) (subst (λ its. length its < 2 ^ 32) (sym items) c.requires.few);
+      ordered = c.put_all_in_place.ensures.order;
+    }
+
+pub returns-clause-items : goal.returns-clause-items
+returns-clause-items c = c.put_all_in_place.ensures.items ∙ made (goal.at.returns-clause-items c).In_ok-reserve
