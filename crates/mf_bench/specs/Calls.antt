@@ -1,0 +1,13 @@
+-- The words that name the calls.
+use Rattle.std.specs.Prelude.{ℕ, List, codes, Option, Some, None, if◌then◌else◌}
+use Rattle.std.specs.Str.{bytes_eq}
+use Rattle.mf_bench.specs.declared.call.Call.{Call}
+use Rattle.mf_bench.specs.declared.call.Call.TheVariants.{Read, Round, Exact}
+
+-- the call that a word names
+abbrev pub call_named : List ℕ → Option Call
+call_named word =
+    if bytes_eq word (codes "read") then Some Read
+    else if bytes_eq word (codes "round") then Some Round
+    else if bytes_eq word (codes "exact") then Some Exact
+    else None
