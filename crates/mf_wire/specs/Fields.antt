@@ -12,7 +12,7 @@ use Rattle.mf_locale.specs.Tag.{is_tag, lower_case}
 
 -- the bytes of a field that is a text
 abbrev pub string_field : List ℕ → Data → Option (List ℕ)
-string_field name object = option_and_then as_str (get name object)
+string_field name request = option_and_then as_str (get name request)
 
 -- the tag that a text is, its letters in lower case
 abbrev pub tag_from : List ℕ → Option (List ℕ)
@@ -20,7 +20,7 @@ tag_from text = if is_tag text then Some (lower_case text) else None
 
 -- a field that is a tag
 abbrev pub tag_field : List ℕ → Data → Option (List ℕ)
-tag_field name object = option_and_then (λ bytes. tag_from (chars bytes)) (string_field name object)
+tag_field name request = option_and_then (λ bytes. tag_from (chars bytes)) (string_field name request)
 
 -- an id has from 1 to 256 bytes
 abbrev pub is_id : List ℕ → Bool
@@ -46,7 +46,7 @@ catalogue_from members = if is_catalogue_size (members_len members) then message
 
 -- a field that is a catalogue
 abbrev pub catalogue_field : List ℕ → Data → Option (List Pair)
-catalogue_field name object = option_and_then catalogue_from (option_and_then as_object (get name object))
+catalogue_field name request = option_and_then catalogue_from (option_and_then as_object (get name request))
 
 -- the characters are all ASCII
 abbrev pub is_ascii : List ℕ → Bool

@@ -14,24 +14,24 @@ use Rattle.mf_wire.specs.declared.request.Request.TheVariants.{Publish, Format}
 
 -- a publication of messages: a tag and a catalogue
 abbrev pub publish_request : Data → Option Request
-publish_request object =
+publish_request request =
     option_and_then
-    (λ tag. option_map (λ messages. Publish (Catalogue tag messages)) (catalogue_field (codes "messages") object))
-    (tag_field (codes "locale") object)
+    (λ tag. option_map (λ messages. Publish (Catalogue tag messages)) (catalogue_field (codes "messages") request))
+    (tag_field (codes "locale") request)
 
 -- a request for a sentence: a tag, an id and arguments; `since` isn't built yet
 abbrev pub format_request : Data → Option Request
-format_request object =
-    if is_some (get (codes "since") object) then None else option_and_then
+format_request request =
+    if is_some (get (codes "since") request) then None else option_and_then
     (λ tag. option_and_then
-    (λ id. option_map (λ arguments. Format tag (chars id) arguments) (arguments_of (get (codes "args") object)))
-    (string_field (codes "id") object))
-    (tag_field (codes "locale") object)
+    (λ id. option_map (λ arguments. Format tag (chars id) arguments) (arguments_of (get (codes "args") request)))
+    (string_field (codes "id") request))
+    (tag_field (codes "locale") request)
 
 -- what an object with this `op` asks for, where it is built
 abbrev pub request_by : List ℕ → Data → Option Request
-request_by op object =
-    if bytes_eq op (codes "publish") then publish_request object else (if bytes_eq op (codes "format") then format_request object else None)
+request_by op request =
+    if bytes_eq op (codes "publish") then publish_request request else (if bytes_eq op (codes "format") then format_request request else None)
 
 -- what a JSON value asks for, where it is built
 abbrev pub request_from : Data → Option Request
