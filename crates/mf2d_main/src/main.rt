@@ -5,10 +5,9 @@
 use mf_io::{Status, StdSink, StdSource};
 use mf_text::{Text, Texts};
 use mf2d::top;
-use std::env;
-use std::io;
 use std::io::BufWriter;
 use std::process::ExitCode;
+use std::{env, io};
 
 /// The words after the program's name.
 fn words(rt: &HostRuntime) -> io::Result<Texts> {
