@@ -61,7 +61,10 @@ fn a_source_that_is_not_flat_makes_no_edition(rt: HostRuntime) -> Result<(), Fai
 #[test]
 fn a_message_is_that_of_its_newest_publication(rt: HostRuntime) -> Result<(), Fail> {
     let alloc = rt.alloc();
-    let ask = "{\"op\":\"format\",\"locale\":\"en-GB\",\"id\":\"a\",\"args\":{\"unused\":\"b\"}}";
+    let ask = String::from_str(
+        alloc,
+        "{\"op\":\"format\",\"locale\":\"en-GB\",\"id\":\"a\",\"args\":{\"unused\":\"b\"}}",
+    )?;
     let first = publication(alloc, "en", "a", "first")?;
     let second = publication(alloc, "EN", "a", "second")?;
     let other = publication(alloc, "und", "b", "other")?;
@@ -69,11 +72,11 @@ fn a_message_is_that_of_its_newest_publication(rt: HostRuntime) -> Result<(), Fa
         alloc,
         &[
             first.as_str(),
-            ask,
+            ask.as_str(),
             second.as_str(),
-            ask,
+            ask.as_str(),
             other.as_str(),
-            ask,
+            ask.as_str(),
             "{\"op\":\"format\",\"locale\":\"en-gb\",\"id\":\"b\"}",
             "{\"op\":\"format\",\"locale\":\"de\",\"id\":\"a\"}",
         ],
@@ -109,13 +112,14 @@ fn forms_that_are_not_built(rt: HostRuntime) -> Result<(), Fail> {
         "{\"op\":\"format\",\"locale\":\"en\",\"id\":\"a\",\"args\":{\"\u{e9}\":\"b\",\"x\":\"c\"}}",
         "{\"op\":\"format\",\"locale\":\"en\",\"id\":\"a\",\"args\":{\"x\":\"c\"},\"since\":null}",
     ];
-    let message = publication(alloc, "en", "a", "{$x}")?;
     for row in rows {
-        let told = replies(alloc, &[message.as_str(), row])?;
+        let message = publication(alloc, "en", "a", "{$x}")?;
+        let line = String::from_str(alloc, row)?;
+        let told = replies(alloc, &[message.as_str(), line.as_str()])?;
         assert!(rt;
             told.as_str()
                 .ends_with("publish\"}\n{\"error\":\"not-built\"}\n"),
-            "{row}: {told}"
+            "{line}: {told}"
         );
     }
     Ok(())
