@@ -9,7 +9,7 @@ use Rattle.std.specs.List.{find, position, position_or_len, slice_get}
 use Rattle.std.specs.Option.{option_map, option_and_then}
 use Rattle.mf_text.specs.declared.arguments.Argued.{Argued}
 use Rattle.mf_text.specs.declared.direction.Direction.TheVariants.{Ltr}
-use Rattle.mf_parse.specs.declared.piece.FlatPiece.{FlatPiece}
+use Rattle.mf_tree.specs.declared.pattern.Piece.{Piece}
 use Rattle.mf_parts.specs.Isolation.{isolated_part}
 use Rattle.mf_parts.specs.declared.part.Part.{Part}
 use Rattle.mf_edition.specs.declared.item.Item.{Item}
@@ -51,7 +51,7 @@ parts_joined done next None = refl
 parts_joined done next (Some parts) = ap Some (sym (append_assoc done next parts))
 
 -- one more piece goes from those that are left to those that have parts
-pub parts-more : (arguments : List (List ℕ × Argued)) (all : Option (List Part)) (done next : List Part) (piece : FlatPiece) (more : List FlatPiece) (part : Part)
+pub parts-more : (arguments : List (List ℕ × Argued)) (all : Option (List Part)) (done next : List Part) (piece : Piece) (more : List Piece) (part : Part)
     → all ≡ option_map (λ parts. done ++ parts) (parts_of arguments (piece ∷ more))
     → Some part ≡ piece_part arguments piece → next ≡ done ++ isolated_part Ltr part
     → all ≡ option_map (λ parts. next ++ parts) (parts_of arguments more)
@@ -63,7 +63,7 @@ parts-more arguments all done next piece more part so_far is then =
     ∙ ap (λ (first : List Part). option_map (λ parts. first ++ parts) (parts_of arguments more)) (sym then)
 
 -- a piece without a part
-pub parts-none : (arguments : List (List ℕ × Argued)) (all : Option (List Part)) (done : List Part) (piece : FlatPiece) (more : List FlatPiece)
+pub parts-none : (arguments : List (List ℕ × Argued)) (all : Option (List Part)) (done : List Part) (piece : Piece) (more : List Piece)
     → all ≡ option_map (λ parts. done ++ parts) (parts_of arguments (piece ∷ more)) → None ≡ piece_part arguments piece → None ≡ all
 parts-none arguments all done piece more so_far is =
     sym (so_far

@@ -1,31 +1,22 @@
 -- The defined reply to a line, and the desk after it, are functions of the desk and the line.
 use Rattle.std.proofs.Common.{◌≡◌, ◌∙◌, inl, inr, ℕ, Bool, true, false, List, [], ◌∷◌, Result, Ok, Err, refl, ap, sym, subst}
-use Rattle.std.specs.Bool.{MatchBool}
 use Rattle.std.specs.Result.{MatchResult}
 use Rattle.mf_wire.specs.Replies.{memory_line}
 use Rattle.mf_wire.specs.Requests.{request_of}
 use Rattle.mf_wire.specs.declared.reply.Reply.{Reply}
-use Rattle.mf_wire.specs.declared.reply.Reply.TheVariants.{NotBuilt}
 use Rattle.mf_wire.specs.declared.request.Request.{Request}
-use Rattle.mf_wire.specs.declared.request.Request.TheVariants.{Publish, Format}
-use Rattle.mf_edition.specs.declared.change.Change.{Change}
-use Rattle.mf2d.specs.Answers.{is_flat_change}
+use Rattle.mf_wire.specs.declared.request.Request.TheVariants.{Publish, Format, Lint}
 use Rattle.mf2d.specs.Laws.{HasNoMemoryLine}
-use Rattle.mf2d.specs.Served.{Desk, Accepts, Replies, RequestAnswered, LineAnswered, Answered, Served}
+use Rattle.mf2d.specs.Served.{Desk, Replies, RequestAnswered, LineAnswered, Answered, Served}
 
 same_pair : {A B : Type 0} (a b c : A) (x y z : B) → (a ≡ b) × (x ≡ y) → (c ≡ b) × (z ≡ y) → (a ≡ c) × (x ≡ z)
 same_pair a b c x y z first second = (first.0 ∙ sym second.0, first.1 ∙ sym second.1)
 
-publish_once : (test : Bool) (change : Change) (desk : Desk) (reply other : List ℕ) (after kept : Desk)
-    → MatchBool test (Accepts change desk reply after) (Replies NotBuilt desk reply after)
-    → MatchBool test (Accepts change desk other kept) (Replies NotBuilt desk other kept) → (reply ≡ other) × (after ≡ kept)
-publish_once true change desk reply other after kept one two = same_pair _ _ _ _ _ _ one two
-publish_once false change desk reply other after kept one two = same_pair _ _ _ _ _ _ one two
-
 request_once : (request : Request) (desk : Desk) (reply other : List ℕ) (after kept : Desk)
     → RequestAnswered request desk reply after → RequestAnswered request desk other kept → (reply ≡ other) × (after ≡ kept)
-request_once (Publish change) desk reply other after kept one two = publish_once (is_flat_change change) change desk reply other after kept one two
-request_once (Format tag id arguments) desk reply other after kept one two = same_pair _ _ _ _ _ _ one two
+request_once (Publish change) desk reply other after kept one two = same_pair _ _ _ _ _ _ one two
+request_once (Format tag id arguments since) desk reply other after kept one two = same_pair _ _ _ _ _ _ one two
+request_once (Lint source) desk reply other after kept one two = same_pair _ _ _ _ _ _ one two
 
 asked_once : (asked : Result Request Reply) (desk : Desk) (reply other : List ℕ) (after kept : Desk)
     → MatchResult asked (λ request. RequestAnswered request desk reply after) (λ refusal. Replies refusal desk reply after)

@@ -1,15 +1,15 @@
 -- Lines answered one after the other.
-use Rattle.std.specs.Prelude.{◌≡◌, ◌⊎◌, ◌+◌, ℕ, List, [], ◌∷◌, ◌++◌, length, MatchBool, MatchResult}
+use Rattle.std.specs.Prelude.{◌≡◌, ◌⊎◌, ◌+◌, ℕ, List, [], ◌∷◌, ◌++◌, length, MatchResult}
 use Rattle.mf_edition.specs.declared.change.Change.{Change}
 use Rattle.mf_edition.specs.declared.change.Entry.{Entry}
 use Rattle.mf_wire.specs.Replies.{reply_line, memory_line}
 use Rattle.mf_wire.specs.Requests.{request_of}
 use Rattle.mf_wire.specs.declared.reply.Op.TheVariants as op
 use Rattle.mf_wire.specs.declared.reply.Reply.{Reply}
-use Rattle.mf_wire.specs.declared.reply.Reply.TheVariants.{Accepted, NotBuilt}
+use Rattle.mf_wire.specs.declared.reply.Reply.TheVariants.{Accepted}
 use Rattle.mf_wire.specs.declared.request.Request.{Request}
-use Rattle.mf_wire.specs.declared.request.Request.TheVariants.{Publish, Format}
-use Rattle.mf2d.specs.Answers.{answer, is_flat_change}
+use Rattle.mf_wire.specs.declared.request.Request.TheVariants.{Publish, Format, Lint}
+use Rattle.mf2d.specs.Answers.{answer, lint_reply}
 
 -- what is known between two lines: the log of the publications that were accepted
 abbrev pub Desk : Type 0
@@ -34,8 +34,9 @@ Accepts change desk reply after =
 
 -- the defined reply to a request, and the desk after it
 abbrev pub RequestAnswered : Request → Desk → List ℕ → Desk → Type 0
-RequestAnswered (Publish change) desk reply after = MatchBool (is_flat_change change) (Accepts change desk reply after) (Replies NotBuilt desk reply after)
-RequestAnswered (Format tag id arguments) desk reply after = Replies (answer desk (length desk) tag id arguments) desk reply after
+RequestAnswered (Publish change) desk reply after = Accepts change desk reply after
+RequestAnswered (Format tag id arguments since) desk reply after = Replies (answer desk (length desk) tag id arguments since) desk reply after
+RequestAnswered (Lint source) desk reply after = Replies (lint_reply source) desk reply after
 
 -- the defined reply to a line, and the desk after it
 abbrev pub LineAnswered : Desk → List ℕ → List ℕ → Desk → Type 0

@@ -1,13 +1,11 @@
-ghost use Rattle.std.specs.Prelude.{◌≡◌, ◌≢◌, ◌↔◌, ◌≤◌, ◌⊎◌, None, chars};
-ghost use Rattle.std.specs.Io.KnownBytes.{Keeps};
+ghost use Rattle.std.specs.Prelude.{◌≡◌, ◌≢◌, ◌↔◌, ◌≤◌, ◌⊎◌, None, Some, chars};
 ghost use Rattle.mf_io.specs.Faults.{Rose};
 ghost use Rattle.mf_io.specs.Known.{ConsumesJust, ConsumesAtMost};
-ghost use Rattle.mf2d.specs.Commands.{command_of, command_named};
-ghost use Rattle.mf2d.specs.Transcripts.{IsAnswered, IsAnsweredInPart};
+ghost use Rattle.mf2d.specs.Commands.{cap_of, command_named, command_of, IsDone, IsDoneInPart};
 
-use crate::desk::Desk;
-use crate::pipe::answer_lines;
-use mf_io::{Failed, GatherError, Sink, Source, Status, gather};
+use crate::lint::{LINT_CAP, lint};
+use crate::pipe::{PIPE_CAP, pipe};
+use mf_io::{Sink, Source, Status};
 use mf_text::Texts;
 use std::alloc::Global;
 
@@ -16,10 +14,9 @@ use std::alloc::Global;
 pub enum Command {
     /// Answers each line of the input.
     Pipe,
+    /// Lints the input as one source.
+    Lint,
 }
-
-/// The most bytes that an input of `pipe` may have, and one more.
-pub const PIPE_CAP: u64 = 16_777_216;
 
 /// The command that the words after the program's name spell.
 fn read_command(words: &Texts) -> Option<Command>
@@ -37,20 +34,29 @@ fn named(word: &str) -> Option<Command>
 {
     if word == "pipe" {
         Some(Command::Pipe)
+    } else if word == "lint" {
+        Some(Command::Lint)
     } else {
         None
     }
 }
 
-/// Does what the words after the program's name say.
+/// Does what the words after the program's name say. A fault is answered only where its object's count of faults rose.
 ///
 /// `pipe` reads the whole input and answers each of its lines. Its statuses are `Ended`, `ReadFault`, `WriteFault`,
-/// `InputFull` (the input has 16,777,216 bytes or more) and `OutOfMemory` (there was none for the input). After a
-/// status other than `Ended` and `WriteFault` nothing was answered. Any other words are `Usage`.
+/// `InputFull` (the input has 16,777,216 bytes or more) and `OutOfMemory` (before anything was read). After a status
+/// other than `Ended` and `WriteFault` nothing was answered.
+///
+/// `lint` reads the whole input as one source, and writes the line with its canonical form or its errors. Its statuses are
+/// `Ended`, `ReadFault`, `WriteFault`, `LineTooLong` (the input has more than 1,048,576 bytes) and `OutOfMemory` (before
+/// anything was read).
+///
+/// Any other words are `Usage`.
 pub fn top<S: Source, K: Sink>(alloc: Global, words: &Texts, source: &mut S, sink: &mut K) -> Status
     // No command has these words, and nothing was read or written.
     ensures usage { (result ≡ Status.Usage) ↔ (command_of words.now ≡ None) }
-    ensures untouched { result ≡ Status.Usage → (source.new ≡ source.old) × (sink.new ≡ sink.old) }
+    ensures untouched { (result ≡ Status.Usage) ⊎ (result ≡ Status.OutOfMemory)
+        → (source.new ≡ source.old) × (sink.new ≡ sink.old) }
 
     // A fault comes only where its object's count rose, and no count falls.
     ensures read_fault { result ≡ Status.ReadFault → Rose (S.faults source.old) (S.faults source.new) }
@@ -58,33 +64,25 @@ pub fn top<S: Source, K: Sink>(alloc: Global, words: &Texts, source: &mut S, sin
     ensures source_count { S.faults source.old ≤ S.faults source.new }
     ensures sink_count { K.faults sink.old ≤ K.faults sink.new }
 
-    // What was taken and written.
+    // What was taken and written, by the command.
     ensures ended { result ≡ Status.Ended
-        → IsAnswered PIPE_CAP (S.left source.old) (S.left source.new) (K.taken sink.old) (K.taken sink.new) }
+        → IsDone (command_of words.now) (S.left source.old) (S.left source.new) (K.taken sink.old) (K.taken sink.new) }
     ensures stopped { result ≡ Status.WriteFault
-        → IsAnsweredInPart PIPE_CAP (S.left source.old) (S.left source.new) (K.taken sink.old) (K.taken sink.new) }
-    ensures full { result ≡ Status.InputFull → ConsumesJust PIPE_CAP (S.left source.old) (S.left source.new) }
-    ensures unread { (result ≡ Status.ReadFault) ⊎ (result ≡ Status.OutOfMemory)
-        → ConsumesAtMost PIPE_CAP (S.left source.old) (S.left source.new) }
-    ensures silent { result ≢ Status.Ended → result ≢ Status.WriteFault → Keeps (K.taken sink.old) (K.taken sink.new) }
+        → IsDoneInPart (command_of words.now) (S.left source.old) (S.left source.new) (K.taken sink.old) (K.taken sink.new) }
+    ensures full { result ≡ Status.InputFull
+        → (command_of words.now ≡ Some Command.Pipe) × ConsumesJust PIPE_CAP (S.left source.old) (S.left source.new) }
+    ensures long { result ≡ Status.LineTooLong
+        → (command_of words.now ≡ Some Command.Lint) × ConsumesJust LINT_CAP (S.left source.old) (S.left source.new) }
+    ensures unread { result ≡ Status.ReadFault
+        → ConsumesAtMost (cap_of (command_of words.now)) (S.left source.old) (S.left source.new) }
+    ensures silent { result ≢ Status.Ended → result ≢ Status.WriteFault → sink.new ≡ sink.old }
 
-    // The other statuses don't come.
-    ensures no_line_cap { result ≢ Status.LineTooLong }
+    // The other status doesn't come.
     ensures no_listener { result ≢ Status.ListenFault }
 {
-    let Some(Command::Pipe) = read_command(words) else {
-        return Status::Usage;
-    };
-    let Ok(desk) = Desk::new(alloc) else {
-        return Status::OutOfMemory;
-    };
-    match gather(alloc, source, PIPE_CAP) {
-        Ok(input) => match answer_lines(alloc, desk, &input, sink) {
-            Ok(()) => Status::Ended,
-            Err(Failed) => Status::WriteFault,
-        },
-        Err(GatherError::Failed) => Status::ReadFault,
-        Err(GatherError::Full) => Status::InputFull,
-        Err(GatherError::OutOfMemory) => Status::OutOfMemory,
+    match read_command(words) {
+        Some(Command::Pipe) => pipe(alloc, source, sink),
+        Some(Command::Lint) => lint(alloc, source, sink),
+        None => Status::Usage,
     }
 }

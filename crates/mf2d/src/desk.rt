@@ -4,7 +4,7 @@ ghost use Rattle.mf2d.specs.Answers.{answer as answered};
 ghost use Rattle.mf2d.specs.Served.{LineAnswered, RequestAnswered, empty_desk};
 
 use crate::answer::answer;
-use crate::flat::is_flat;
+use crate::lint::lint_reply;
 use mf_edition::{Change, Edition, Entry, Log, PublishError};
 use mf_locale::Tag;
 use mf_text::{Arguments, Text};
@@ -50,22 +50,28 @@ impl Desk {
     {
         match read_request(alloc, line) {
             Ok(Request::Publish(change)) => self.publish(alloc, change),
-            Ok(Request::Format { tag, id, arguments }) => self.format(alloc, &tag, &id, &arguments),
+            Ok(
+                Request::Format {
+                    tag,
+                    id,
+                    arguments,
+                    since,
+                },
+            ) => self.format(alloc, &tag, &id, &arguments, since),
+            Ok(Request::Lint { source }) => reply_line(alloc, &lint_reply(alloc, &source)?),
             Err(WireError::BadJson) => reply_line(alloc, &Reply::BadJson),
+            Err(WireError::BadRequest { field }) => reply_line(alloc, &Reply::BadRequest { field }),
             Err(WireError::NotBuilt) => reply_line(alloc, &Reply::NotBuilt),
             Err(WireError::OutOfMemory) => Err(AllocError),
         }
     }
 
-    /// Publishes a change whose sources are all flat, and gives the reply line. The line is made first, so that
+    /// Publishes a change, and gives the reply line. The line is made first, so that
     /// nothing has changed where there is no memory.
     fn publish(&mut self, alloc: Global, change: Change) -> Result<Text, AllocError>
         ensures ok { IfOk result (λ reply. RequestAnswered (Request.Publish change) self.old (encode_utf8_all reply) self.new) }
         ensures err { OnErr result (self.new ≡ self.old) }
     {
-        if !is_flat(alloc, &change)? {
-            return reply_line(alloc, &Reply::NotBuilt);
-        }
         if !self.newest.has_room(&change) {
             return Err(AllocError);
         }
@@ -95,11 +101,12 @@ impl Desk {
         tag: &Tag,
         id: &Text,
         arguments: &Arguments,
+        since: u64,
     ) -> Result<Text, AllocError>
         ensures { IfOk result (λ line. encode_utf8_all line
-            ≡ line_of (answered self.now (length self.now) tag.now id.now arguments.now)) }
+            ≡ line_of (answered self.now (length self.now) tag.now id.now arguments.now since)) }
     {
-        let reply = answer(alloc, &self.newest, tag, id, arguments)?;
+        let reply = answer(alloc, &self.newest, tag, id, arguments, since)?;
         reply_line(alloc, &reply)
     }
 }

@@ -4,11 +4,13 @@
 mod answer;
 mod command;
 mod desk;
-mod flat;
 pub mod laws;
+mod lint;
 mod pipe;
 
-pub use command::{Command, PIPE_CAP, top};
+pub use command::{Command, top};
+pub use lint::LINT_CAP;
+pub use pipe::PIPE_CAP;
 
 #[cfg(test)]
 mod sentences;

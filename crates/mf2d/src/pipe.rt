@@ -1,14 +1,47 @@
-ghost use Rattle.std.specs.Prelude.{◌≡◌, ℕ, OnOk, OnErr};
+ghost use Rattle.std.specs.Prelude.{◌≡◌, ◌≢◌, ◌≤◌, ℕ, OnOk, OnErr};
 ghost use Rattle.std.specs.Io.KnownBytes.{Appends};
-ghost use Rattle.mf_io.specs.Faults.{HasCause};
-ghost use Rattle.mf_io.specs.Known.{TakesFront};
+ghost use Rattle.mf_io.specs.Faults.{HasCause, Rose};
+ghost use Rattle.mf_io.specs.Known.{ConsumesAtMost, ConsumesJust, TakesFront};
 ghost use Rattle.mf2d.specs.Served.{empty_desk};
-ghost use Rattle.mf2d.specs.Transcripts.{ended, RepliesWhole, RepliesInPart, AnswersAll, AnswersFront};
+ghost use Rattle.mf2d.specs.Transcripts.{ended, IsAnswered, IsAnsweredInPart, RepliesWhole, RepliesInPart, AnswersAll, AnswersFront};
 
 use crate::desk::Desk;
-use mf_io::{Failed, Sink, send};
+use mf_io::{Failed, GatherError, Sink, Source, Status, gather, send};
 use mf_wire::{MEMORY_LINE, first_line};
 use std::alloc::Global;
+
+/// The most bytes that an input of `pipe` may have, and one more.
+pub const PIPE_CAP: u64 = 16_777_216;
+
+/// Reads the whole input, and answers each of its lines.
+pub fn pipe<S: Source, K: Sink>(alloc: Global, source: &mut S, sink: &mut K) -> Status
+    ensures read_fault { result ≡ Status.ReadFault → Rose (S.faults source.old) (S.faults source.new) }
+    ensures write_fault { result ≡ Status.WriteFault → Rose (K.faults sink.old) (K.faults sink.new) }
+    ensures source_count { S.faults source.old ≤ S.faults source.new }
+    ensures sink_count { K.faults sink.old ≤ K.faults sink.new }
+    ensures ended { result ≡ Status.Ended
+        → IsAnswered PIPE_CAP (S.left source.old) (S.left source.new) (K.taken sink.old) (K.taken sink.new) }
+    ensures stopped { result ≡ Status.WriteFault
+        → IsAnsweredInPart PIPE_CAP (S.left source.old) (S.left source.new) (K.taken sink.old) (K.taken sink.new) }
+    ensures full { result ≡ Status.InputFull → ConsumesJust PIPE_CAP (S.left source.old) (S.left source.new) }
+    ensures unread { result ≡ Status.ReadFault → ConsumesAtMost PIPE_CAP (S.left source.old) (S.left source.new) }
+    ensures untouched { result ≡ Status.OutOfMemory → source.new ≡ source.old }
+    ensures silent { result ≢ Status.Ended → result ≢ Status.WriteFault → sink.new ≡ sink.old }
+    ensures others { (result ≢ Status.Usage) × (result ≢ Status.LineTooLong) × (result ≢ Status.ListenFault) }
+{
+    let Ok(desk) = Desk::new(alloc) else {
+        return Status::OutOfMemory;
+    };
+    match gather(alloc, source, PIPE_CAP) {
+        Ok(input) => match answer_lines(alloc, desk, &input, sink) {
+            Ok(()) => Status::Ended,
+            Err(Failed) => Status::WriteFault,
+        },
+        Err(GatherError::Failed) => Status::ReadFault,
+        Err(GatherError::Full) => Status::InputFull,
+        Err(GatherError::OutOfMemory) => Status::OutOfMemory,
+    }
+}
 
 /// Answers each line of the input in order.
 pub fn answer_lines<K: Sink>(
@@ -50,7 +83,7 @@ fn answer_line<K: Sink>(
 }
 
 /// Writes a reply with its line feed.
-fn send_line<K: Sink>(sink: &mut K, reply: &[u8]) -> Result<(), Failed>
+pub(crate) fn send_line<K: Sink>(sink: &mut K, reply: &[u8]) -> Result<(), Failed>
     ensures sent { OnOk result (Appends (K.taken sink.old) (K.taken sink.new) (ended reply.now)) }
     ensures stopped { OnErr result (TakesFront (K.taken sink.old) (K.taken sink.new) (ended reply.now)) }
     ensures cause { HasCause (K.faults sink.old) (K.faults sink.new) result }

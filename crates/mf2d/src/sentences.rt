@@ -4,8 +4,6 @@ use mf_text::{Text, Texts};
 use std::alloc::{AllocError, Global};
 use std::test::Fail;
 
-const NOT_BUILT: &str = "{\"error\":\"not-built\"}\n";
-
 /// What `pipe` writes for these lines.
 fn replies(alloc: Global, lines: &[&str]) -> Result<String, AllocError> {
     let mut input = Vec::new(alloc);
@@ -24,7 +22,7 @@ fn replies(alloc: Global, lines: &[&str]) -> Result<String, AllocError> {
     String::from_str(alloc, str::from_utf8(sink.taken()).unwrap_or("no text"))
 }
 
-/// The text of the only sentence that an application gets after a publication.
+/// The line of a publication of one message.
 fn publication(alloc: Global, tag: &str, id: &str, source: &str) -> Result<String, AllocError> {
     format!(in alloc;
         "{{\"op\":\"publish\",\"locale\":\"{tag}\",\"messages\":{{\"{id}\":\"{source}\"}}}}"
@@ -37,24 +35,48 @@ fn plain(alloc: Global, edition: u64, tag: &str, text: &str) -> Result<String, A
     )
 }
 
+// Any text is a source; what isn't flat can't be formatted yet.
 #[test]
-fn a_source_that_is_not_flat_makes_no_edition(rt: HostRuntime) -> Result<(), Fail> {
+fn a_source_that_is_not_flat_is_published(rt: HostRuntime) -> Result<(), Fail> {
     let alloc = rt.alloc();
-    let dot = publication(alloc, "en", "a", ".x")?;
-    let flat = publication(alloc, "en", "a", "x")?;
-    let told = replies(
+    for source in [
+        ".x",
+        "{$x :f}",
+        "{$x @a}",
+        "{|x|}",
+        "{#b}",
+        ".input {$x} {{a}}",
+        ".match $x * {{a}}",
+    ] {
+        let message = publication(alloc, "en", "a", source)?;
+        let ask = String::from_str(
+            alloc,
+            "{\"op\":\"format\",\"locale\":\"en\",\"id\":\"a\",\"args\":{\"x\":\"b\"}}",
+        )?;
+        let told = replies(alloc, &[message.as_str(), ask.as_str()])?;
+        assert_eq!(rt;
+            told.as_str(),
+            "{\"edition\":1,\"ok\":\"publish\"}\n{\"error\":\"not-built\"}\n",
+            "{source}"
+        );
+    }
+    Ok(())
+}
+
+// A decomposed name is the composed one, and a quoted pattern is the pattern alone.
+#[test]
+fn a_name_is_that_of_its_normal_form(rt: HostRuntime) -> Result<(), Fail> {
+    let alloc = rt.alloc();
+    let message = publication(alloc, "en", "a", "{{{ $e\u{301}\u{200e} }}}")?;
+    let ask = String::from_str(
         alloc,
-        &[
-            dot.as_str(),
-            "{\"op\":\"format\",\"locale\":\"en\",\"id\":\"a\"}",
-            flat.as_str(),
-        ],
+        "{\"op\":\"format\",\"locale\":\"en\",\"id\":\"a\",\"args\":{\"\u{e9}\":\"x\"}}",
     )?;
-    let mut expected = String::from_str(alloc, NOT_BUILT)?;
-    expected.push_str(
-        "{\"edition\":0,\"error\":\"no-message\"}\n{\"edition\":1,\"ok\":\"publish\"}\n",
-    )?;
-    assert_eq!(rt; told.as_str(), expected.as_str());
+    let told = replies(alloc, &[message.as_str(), ask.as_str()])?;
+    assert!(rt;
+        told.as_str().ends_with("\"text\":\"\u{2068}x\u{2069}\"}\n"),
+        "{told}"
+    );
     Ok(())
 }
 
@@ -93,35 +115,60 @@ fn a_message_is_that_of_its_newest_publication(rt: HostRuntime) -> Result<(), Fa
     Ok(())
 }
 
+// A message is asked for in an edition that isn't there yet, without an argument, with a number, and not at all.
 #[test]
-fn forms_that_are_not_built(rt: HostRuntime) -> Result<(), Fail> {
+fn a_request_is_answered_in_order(rt: HostRuntime) -> Result<(), Fail> {
     let alloc = rt.alloc();
     let rows = [
-        "{}",
-        "[]",
-        "{\"op\":\"stat\"}",
-        "{\"op\":\"publish\",\"locale\":\"e\",\"messages\":{\"a\":\"b\"}}",
-        "{\"op\":\"publish\",\"locale\":\"en\",\"messages\":{}}",
-        "{\"op\":\"publish\",\"locale\":\"en\",\"messages\":{\"\":\"b\"}}",
-        "{\"op\":\"publish\",\"locale\":\"en\",\"messages\":{\"a\":1}}",
-        "{\"op\":\"publish\",\"locale\":\"en\",\"messages\":[\"a\"]}",
-        "{\"op\":\"format\",\"locale\":\"en\"}",
-        "{\"op\":\"format\",\"locale\":\"en\",\"id\":\"a\"}",
-        "{\"op\":\"format\",\"locale\":\"en\",\"id\":\"a\",\"args\":null}",
-        "{\"op\":\"format\",\"locale\":\"en\",\"id\":\"a\",\"args\":{\"x\":1}}",
-        "{\"op\":\"format\",\"locale\":\"en\",\"id\":\"a\",\"args\":{\"\u{e9}\":\"b\",\"x\":\"c\"}}",
-        "{\"op\":\"format\",\"locale\":\"en\",\"id\":\"a\",\"args\":{\"x\":\"c\"},\"since\":null}",
+        (
+            "\"id\":\"a\",\"since\":2",
+            "{\"edition\":1,\"error\":\"not-yet\",\"since\":2}",
+        ),
+        (
+            "\"id\":\"b\",\"since\":2",
+            "{\"edition\":1,\"error\":\"not-yet\",\"since\":2}",
+        ),
+        (
+            "\"id\":\"b\",\"since\":1",
+            "{\"edition\":1,\"error\":\"no-message\"}",
+        ),
+        ("\"id\":\"a\",\"since\":1", "{\"error\":\"not-built\"}"),
+        (
+            "\"id\":\"a\",\"args\":{\"x\":1}",
+            "{\"error\":\"not-built\"}",
+        ),
+        (
+            "\"args\":{\"x\":1}",
+            "{\"error\":\"bad-request\",\"field\":\"id\"}",
+        ),
     ];
-    for row in rows {
+    for (fields, reply) in rows {
         let message = publication(alloc, "en", "a", "{$x}")?;
-        let line = String::from_str(alloc, row)?;
+        let line = format!(in alloc; "{{\"op\":\"format\",\"locale\":\"en\",{fields}}}")?;
         let told = replies(alloc, &[message.as_str(), line.as_str()])?;
-        assert!(rt;
-            told.as_str()
-                .ends_with("publish\"}\n{\"error\":\"not-built\"}\n"),
-            "{line}: {told}"
-        );
+        let expected = format!(in alloc; "{{\"edition\":1,\"ok\":\"publish\"}}\n{reply}\n")?;
+        assert_eq!(rt; told.as_str(), expected.as_str(), "{line}");
     }
+    Ok(())
+}
+
+#[test]
+fn a_line_lints_a_source(rt: HostRuntime) -> Result<(), Fail> {
+    let alloc = rt.alloc();
+    let told = replies(
+        alloc,
+        &[
+            "{\"op\":\"lint\",\"source\":\".local   $a={1}{{ {$a} }}\"}",
+            "{\"op\":\"lint\",\"source\":\".match $a $b one {{x}} * * {{y}}\"}",
+        ],
+    )?;
+    assert_eq!(rt;
+        told.as_str(),
+        "{\"errors\":[],\"ok\":\"lint\",\"source\":\".local $a = {1}\\n{{ {$a} }}\"}\n\
+        {\"errors\":[{\"kind\":\"variant-key-mismatch\",\"of\":\"1\"},\
+        {\"kind\":\"missing-selector-annotation\",\"of\":\"$a\"},\
+        {\"kind\":\"missing-selector-annotation\",\"of\":\"$b\"}],\"ok\":\"lint\"}\n"
+    );
     Ok(())
 }
 

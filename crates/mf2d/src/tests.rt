@@ -8,7 +8,7 @@ use std::test::Fail;
 
 const BAD_JSON: &str = "{\"error\":\"bad-json\"}\n";
 
-const NOT_BUILT: &str = "{\"error\":\"not-built\"}\n";
+const BAD_OP: &str = "{\"error\":\"bad-request\",\"field\":\"op\"}\n";
 
 const ACCEPTED: &str = "{\"edition\":1,\"ok\":\"publish\"}\n";
 
@@ -86,9 +86,9 @@ fn every_line_gets_its_reply(rt: HostRuntime) -> Result<(), Fail> {
         (b"x", &[BAD_JSON]),
         (b"\n", &[BAD_JSON]),
         (b"\"\xff\"\n", &[BAD_JSON]),
-        (b"[]\n\n[]", &[NOT_BUILT, BAD_JSON, NOT_BUILT]),
-        (b"{} \r\n 1", &[NOT_BUILT, NOT_BUILT]),
-        (deep.as_bytes(), &[NOT_BUILT]),
+        (b"[]\n\n[]", &[BAD_OP, BAD_JSON, BAD_OP]),
+        (b"{} \r\n 1", &[BAD_OP, BAD_OP]),
+        (deep.as_bytes(), &[BAD_OP]),
         (too_deep.as_bytes(), &[BAD_JSON]),
         (REQUESTS, &[ACCEPTED, HELLO_ANN]),
     ];
@@ -113,7 +113,15 @@ fn every_line_gets_its_reply(rt: HostRuntime) -> Result<(), Fail> {
 #[test]
 fn other_words_are_no_command(rt: HostRuntime) -> Result<(), Fail> {
     let alloc = rt.alloc();
-    let rows: [&[&str]; 5] = [&[], &["pipes"], &["Pipe"], &["pipe", ""], &["", "pipe"]];
+    let rows: [&[&str]; 7] = [
+        &[],
+        &["pipes"],
+        &["Pipe"],
+        &["pipe", ""],
+        &["", "pipe"],
+        &["lint", "pipe"],
+        &["lin"],
+    ];
     for words in rows {
         let input = pieces(alloc, REQUESTS, 7)?;
         let run = run_words(alloc, words, input, Vec::new(alloc), Vec::new(alloc))?;
@@ -177,6 +185,83 @@ fn an_input_has_a_cap(rt: HostRuntime) -> Result<(), Fail> {
         let run = pipe(alloc, input)?;
         assert_eq!(rt; run.status, status, "{length} bytes");
         assert_eq!(rt; run.written.is_empty(), status == Status::InputFull);
+    }
+    Ok(())
+}
+
+/// A run of `lint` in which nothing fails.
+fn lint(alloc: Global, input: Vec<Vec<u8>>) -> Result<Run, AllocError> {
+    run_words(alloc, &["lint"], input, Vec::new(alloc), Vec::new(alloc))
+}
+
+#[test]
+fn a_source_is_linted(rt: HostRuntime) -> Result<(), Fail> {
+    let alloc = rt.alloc();
+    for (source, line) in [
+        (
+            b"".as_slice(),
+            "{\"errors\":[],\"ok\":\"lint\",\"source\":\"\"}\n",
+        ),
+        (
+            b".local   $a={1}{{ {$a} }}",
+            "{\"errors\":[],\"ok\":\"lint\",\"source\":\".local $a = {1}\\n{{ {$a} }}\"}\n",
+        ),
+        (
+            b".input {$v :number minimumFractionDigits=$w} .input {$w :number} {{x}}",
+            "{\"errors\":[{\"kind\":\"duplicate-declaration\",\"of\":\"$w\"}],\"ok\":\"lint\"}\n",
+        ),
+        (
+            b".x\n",
+            "{\"errors\":[{\"kind\":\"syntax-error\",\"of\":\"\"}],\"ok\":\"lint\"}\n",
+        ),
+        (b"\xff", "{\"error\":\"bad-utf8\"}\n"),
+    ] {
+        for length in [1, 1_000] {
+            let run = lint(alloc, pieces(alloc, source, length)?)?;
+            assert_eq!(rt; run.status, Status::Ended);
+            assert_eq!(rt; str::from_utf8(&run.written), Ok(line), "{source:?}");
+        }
+    }
+    Ok(())
+}
+
+#[test]
+fn a_source_has_a_cap(rt: HostRuntime) -> Result<(), Fail> {
+    let alloc = rt.alloc();
+    let most = LINT_CAP as usize - 1;
+    let rows = [
+        (b'a', most, Status::Ended),
+        (b'\xff', most, Status::Ended),
+        (b'a', most + 1, Status::LineTooLong),
+        (b'\xff', most + 1, Status::LineTooLong),
+    ];
+    for (byte, length, status) in rows {
+        let input = vec![in alloc; vec![in alloc; byte; length]?]?;
+        let run = lint(alloc, input)?;
+        assert_eq!(rt; run.status, status, "{length} bytes");
+        assert_eq!(rt; run.written.is_empty(), status != Status::Ended);
+    }
+    Ok(())
+}
+
+#[test]
+fn a_fault_ends_a_lint(rt: HostRuntime) -> Result<(), Fail> {
+    let alloc = rt.alloc();
+    let input = pieces(alloc, b"abc", 1)?;
+    let read = run_words(alloc, &["lint"], input, vec![in alloc; 2]?, Vec::new(alloc))?;
+    assert_eq!(rt; read.status, Status::ReadFault);
+    assert!(rt; read.written.is_empty());
+    for failing in 1..4 {
+        let input = pieces(alloc, b"abc", 1)?;
+        let run = run_words(
+            alloc,
+            &["lint"],
+            input,
+            Vec::new(alloc),
+            vec![in alloc; failing]?,
+        )?;
+        assert_eq!(rt; run.status, Status::WriteFault);
+        assert_eq!(rt; run.write_faults, 1);
     }
     Ok(())
 }

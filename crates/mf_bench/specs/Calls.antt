@@ -2,7 +2,7 @@
 use Rattle.std.specs.Prelude.{ℕ, List, codes, Option, Some, None, if◌then◌else◌}
 use Rattle.std.specs.Str.{bytes_eq}
 use Rattle.mf_bench.specs.declared.call.Call.{Call}
-use Rattle.mf_bench.specs.declared.call.Call.TheVariants.{Read, Round, Exact}
+use Rattle.mf_bench.specs.declared.call.Call.TheVariants.{Read, Round, Exact, Text, Category, Variants, Declarations}
 
 -- the call that a word names
 abbrev pub call_named : List ℕ → Option Call
@@ -10,4 +10,8 @@ call_named word =
     if bytes_eq word (codes "read") then Some Read
     else if bytes_eq word (codes "round") then Some Round
     else if bytes_eq word (codes "exact") then Some Exact
+    else if bytes_eq word (codes "text") then Some Text
+    else if bytes_eq word (codes "category") then Some Category
+    else if bytes_eq word (codes "variants") then Some Variants
+    else if bytes_eq word (codes "declarations") then Some Declarations
     else None

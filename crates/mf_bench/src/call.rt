@@ -3,7 +3,7 @@
 ghost use Rattle.std.specs.Prelude.{◌≡◌};
 ghost use Rattle.mf_bench.specs.Calls.{call_named};
 
-/// A call of the decimals.
+/// A call that is timed.
 #[derive(Clone, Copy)]
 pub enum Call {
     /// A text is read.
@@ -12,6 +12,14 @@ pub enum Call {
     Round,
     /// A number's exact text is written.
     Exact,
+    /// A number's text in a locale's layout is written.
+    Text,
+    /// A number's category is found by plural rules.
+    Category,
+    /// A matcher of that many variants is checked.
+    Variants,
+    /// That many declarations of a hundred options are checked.
+    Declarations,
 }
 
 impl Call {
@@ -25,6 +33,14 @@ impl Call {
             Some(Call::Round)
         } else if word == "exact" {
             Some(Call::Exact)
+        } else if word == "text" {
+            Some(Call::Text)
+        } else if word == "category" {
+            Some(Call::Category)
+        } else if word == "variants" {
+            Some(Call::Variants)
+        } else if word == "declarations" {
+            Some(Call::Declarations)
         } else {
             None
         }

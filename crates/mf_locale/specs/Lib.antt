@@ -1,2 +1,4 @@
 pub mod Tag
 pub mod Chain
+pub mod Sizes
+pub mod Records

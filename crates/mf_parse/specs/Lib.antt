@@ -1,5 +1,2 @@
-pub mod Characters
-pub mod Cursor
-pub mod Flat
-pub mod Reading
-pub mod Laws
+pub mod Parsing
+pub mod Syntax

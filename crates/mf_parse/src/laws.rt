@@ -1,16 +1,12 @@
-ghost use Rattle.mf_parse.specs.Laws.{IsSpelledOnce, IsComputed, IsJoined};
+//! What holds of every text: each clause is a theorem over the definitions alone.
+ghost use Rattle.mf_parse.specs.Parsing.{IsComputed, IsSpelledByOne};
 
-/// Each text spells at most one list of pieces.
-pub fn spelled_once()
-    ensures { IsSpelledOnce }
+/// Each text spells at most one message.
+pub fn each_text_spells_one_message()
+    ensures { IsSpelledByOne }
 {}
 
-/// The function `flat_pieces` of the definitions gives the pieces exactly where the text spells them.
-pub fn flat_pieces_are_spelled()
+/// The function `message_of` of the definitions gives a message exactly where the text spells it.
+pub fn messages_are_computed()
     ensures { IsComputed }
-{}
-
-/// The pieces of a flat message have no empty text, and no two texts side by side.
-pub fn texts_are_joined()
-    ensures { IsJoined }
 {}

@@ -1,20 +1,21 @@
-//! The reading of flat messages.
+//! The reading of messages: what a source text spells.
 //!
-//! A source is flat where it is a simple message of
-//! [Unicode MessageFormat](https://www.unicode.org/reports/tr35/tr35-messageFormat.html#syntax) whose placeholders are
-//! all of the form `{$name}`, without space, the name being an ASCII letter or `_` and then ASCII letters, digits, `_`,
-//! `-` or `.`.
+//! [`parse`] answers the one message that a text spells, and `Syntax` exactly where it spells none. The grammar is a
+//! relation of `mf_tree` (`Spells`), one case for each production. Source: Unicode TS 35, Part 9, "Message syntax".
 #![tactic(auto)]
 
-mod characters;
-mod cursor;
-mod flat;
-mod laws;
-mod piece;
+mod declaration;
+mod error;
+mod expression;
+pub mod laws;
+mod markup;
+mod matcher;
+mod message;
+mod pattern;
+mod spaces;
 
-pub use flat::read_flat;
-pub use laws::{flat_pieces_are_spelled, spelled_once, texts_are_joined};
-pub use piece::{FlatError, FlatPiece, FlatPieces};
+pub use error::ParseError;
+pub use message::parse;
 
 #[cfg(test)]
 mod tests;

@@ -1,1 +1,3 @@
-pub mod Characters
+pub mod Classes
+pub mod Either
+pub mod SameTexts

@@ -7,10 +7,14 @@ use std::alloc::{AllocError, Global};
 use std::collections::BTreeMap;
 use std::marker::Model;
 
-/// The value of an argument.
+/// The value of an argument: a text, or a whole number.
 #[derive(Clone, Debug, PartialEq, Eq, Drop)]
 pub enum Argued {
     Text(Text),
+    /// A number that 64 bits with a sign hold.
+    Signed(i64),
+    /// A number that only 64 bits without a sign hold.
+    Unsigned(u64),
 }
 
 /// The arguments of a request, seen as the list of their names and values in the byte order of the names. No two

@@ -4,14 +4,20 @@
 #![tactic(auto)]
 
 mod arguments;
+mod characters;
 mod direction;
 mod list;
+mod normal_form;
 mod pair;
 mod text;
 
 pub use arguments::{Argued, Arguments};
+pub use characters::{
+    is_bidi, is_escapable, is_name_char, is_name_start, is_quoted, is_simple_start, is_text, is_ws,
+};
 pub use direction::Direction;
 pub use list::List;
+pub use normal_form::nfc;
 pub use pair::Pair;
 pub use text::Text;
 

@@ -1,4 +1,4 @@
-ghost use Rattle.std.specs.Prelude.{◌≡◌, ◌↔◌, [], ◌∷◌, ◌++◌, length, slice_get, IsTrue, OnOk, OnErr};
+ghost use Rattle.std.specs.Prelude.{◌≡◌, ◌↔◌, [], ◌∷◌, ◌++◌, length, slice_get, IsTrue, IfOk, OnOk, OnErr};
 ghost use Rattle.std.specs.Option.{option_copied};
 
 use std::alloc::{AllocError, Global};
@@ -29,6 +29,14 @@ impl<T> List<T> {
         List {
             members: Vec::new(alloc),
         }
+    }
+
+    /// A list of no members with room for this many.
+    pub fn with_capacity(alloc: Global, capacity: usize) -> Result<List<T>, AllocError>
+        ensures { IfOk result (λ l. l ≡ []) }
+    {
+        let members = Vec::with_capacity(alloc, capacity)?;
+        Ok(List { members })
     }
 
     /// The number of members.
@@ -68,5 +76,19 @@ impl<T> List<T> {
     {
         self.members.push(member)?;
         Ok(())
+    }
+}
+
+impl<T> Clone for List<T>
+where
+    T: Clone,
+{
+    ghost use Rattle.std.specs.List.{AllZip};
+
+    ghost is_clone = { AllZip T.is_clone };
+
+    fn clone(&self) -> Result<List<T>, AllocError> {
+        let members = self.members.clone()?;
+        Ok(List { members })
     }
 }

@@ -1,4 +1,4 @@
-ghost use Rattle.std.specs.Prelude.{◌≡◌, ◌==◌, ◌∷◌, ◌++◌, IfOk, OnErr, chars, encode_utf8_all};
+ghost use Rattle.std.specs.Prelude.{◌≡◌, ◌==◌, ◌∷◌, ◌++◌, IfOk, OnErr, chars, string_bytes, encode_utf8_all};
 
 use std::alloc::{AllocError, Global};
 use std::cmp::Ordering;
@@ -33,6 +33,13 @@ impl Text {
         ensures bytes { result.now ≡ encode_utf8_all self.now }
     {
         self.text.as_str()
+    }
+
+    /// The characters, as an owned text of the standard library.
+    pub fn into_string(self) -> String
+        ensures { chars (string_bytes result) ≡ self }
+    {
+        self.text
     }
 }
 

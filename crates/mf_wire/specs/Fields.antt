@@ -1,12 +1,13 @@
 -- The fields of a request's JSON object. A repeated key has the value that its reading gives it.
-use Rattle.std.specs.Prelude.{ℕ, ◌&&◌, Bool, List, [], ◌∷◌, length, nat_le, nat_lt, chars, Option, Some, None, option_map, option_and_then, if◌then◌else◌}
-use Rattle.std.specs.List.{list_all}
+use Rattle.std.specs.Prelude.{ℕ, ◌&&◌, Bool, List, [], ◌∷◌, length, nat_le, chars, Option, Some, None, option_map, option_and_then, is_some, if◌then◌else◌}
 use Rattle.serde_json.specs.Data.{Data, Members, no_members, member}
-use Rattle.serde_json.specs.Find.{get, as_str, as_object}
+use Rattle.std.specs.Option.{option_or}
+use Rattle.serde_json.specs.Find.{get, as_str, as_object, as_number, as_i64, as_u64}
 use Rattle.serde_json.specs.Events.{members_len}
-use Rattle.mf_text.specs.Arguments.{with_argument}
+use Rattle.unicode_normalization.specs.Forms.{nfc}
+use Rattle.mf_text.specs.Arguments.{argument_named, with_argument}
 use Rattle.mf_text.specs.declared.arguments.Argued.{Argued}
-use Rattle.mf_text.specs.declared.arguments.Argued.TheVariants.{Text}
+use Rattle.mf_text.specs.declared.arguments.Argued.TheVariants.{Text, Signed, Unsigned}
 use Rattle.mf_text.specs.declared.pair.Pair.{Pair}
 use Rattle.mf_locale.specs.Tag.{is_tag, lower_case}
 
@@ -48,21 +49,39 @@ catalogue_from members = if is_catalogue_size (members_len members) then message
 abbrev pub catalogue_field : List ℕ → Data → Option (List Pair)
 catalogue_field name request = option_and_then catalogue_from (option_and_then as_object (get name request))
 
--- the characters are all ASCII
-abbrev pub is_ascii : List ℕ → Bool
-is_ascii bytes = list_all (λ byte. nat_lt byte 128) bytes
+-- a whole number that 64 bits without a sign hold
+abbrev pub whole_number : Data → Option ℕ
+whole_number value = option_and_then as_u64 (as_number value)
 
--- an argument: an ASCII name, and a value that is a text
+-- a whole number as an argument: with a sign where 64 bits with a sign hold it, else without one
+abbrev pub argued_number : Data → Option Argued
+argued_number value = option_or (option_map Signed (option_and_then as_i64 (as_number value))) (option_map Unsigned (whole_number value))
+
+-- the value of an argument: a text, or a whole number
+abbrev pub argued_from : Data → Option Argued
+argued_from value = option_or (option_map (λ bytes. Text (chars bytes)) (as_str value)) (argued_number value)
+
+-- an argument, whose name is taken in Normalization Form C (Unicode Standard Annex 15)
 abbrev pub argument_from : List ℕ → Data → Option (List ℕ × Argued)
-argument_from name value = if is_ascii name then option_map (λ bytes. (chars name, Text (chars bytes))) (as_str value) else None
+argument_from name value = option_map (λ argued. (nfc (chars name), argued)) (argued_from value)
 
--- the arguments found so far and those of an object, none where one of them isn't an argument
+-- the arguments found so far and one more, none where its name stands among them already
+abbrev pub with_new_argument : List (List ℕ × Argued) → List ℕ × Argued → Option (List (List ℕ × Argued))
+with_new_argument found argument =
+    if is_some (argument_named found argument.0) then None else Some (with_argument found argument.0 argument.1)
+
+-- the arguments found so far and those of an object, none where a member isn't an argument or two have one name
 abbrev pub arguments_from : Members → List (List ℕ × Argued) → Option (List (List ℕ × Argued))
 arguments_from no_members found = Some found
 arguments_from (member name value more) found =
-    option_and_then (λ argument. arguments_from more (with_argument found argument.0 argument.1)) (argument_from name value)
+    option_and_then (λ argument. option_and_then (λ so_far. arguments_from more so_far) (with_new_argument found argument)) (argument_from name value)
 
 -- the arguments of a field: none where it is missing, and those of an object
 abbrev pub arguments_of : Option Data → Option (List (List ℕ × Argued))
 arguments_of None = Some []
 arguments_of (Some value) = option_and_then (λ members. arguments_from members []) (as_object value)
+
+-- the least edition that a format may come from: 0 where the field is missing
+abbrev pub since_of : Option Data → Option ℕ
+since_of None = Some 0
+since_of (Some value) = whole_number value

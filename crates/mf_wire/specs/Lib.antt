@@ -1,3 +1,4 @@
+pub mod FieldNames
 pub mod Fields
 pub mod Lines
 pub mod Reading

@@ -3,13 +3,16 @@ use Rattle.std.specs.Prelude.{ℕ, List, map, codes, encode_utf8, encode_utf8_al
 use Rattle.serde_json.specs.Data.{Data, number, string, array, object, unsigned, no_items, member, no_members}
 use Rattle.serde_json.specs.View.{items_of}
 use Rattle.serde_json.specs.Written.{compact_text}
+use Rattle.mf_tree.specs.Kinds.{class_of}
+use Rattle.mf_tree.specs.declared.fault.Fault.{Fault}
 use Rattle.mf_parts.specs.Joined.{text_of}
 use Rattle.mf_parts.specs.declared.part.Part.{Part}
 use Rattle.mf_parts.specs.declared.part.Part.TheVariants.{Text, Isolate, String}
+use Rattle.mf_wire.specs.FieldNames.{field_name}
 use Rattle.mf_wire.specs.declared.reply.Op.{Op}
 use Rattle.mf_wire.specs.declared.reply.Op.TheVariants.{Publish}
 use Rattle.mf_wire.specs.declared.reply.Reply.{Reply}
-use Rattle.mf_wire.specs.declared.reply.Reply.TheVariants.{Accepted, Formatted, BadJson, NotBuilt, NoMessage}
+use Rattle.mf_wire.specs.declared.reply.Reply.TheVariants.{Accepted, Formatted, LintValid, LintInvalid, BadJson, BadRequest, NotBuilt, NoMessage, NotYet}
 
 -- a text, by its characters
 abbrev pub text_data : List ℕ → Data
@@ -47,14 +50,38 @@ formatted_data edition tag parts = object
     (member (codes "parts") (parts_data parts)
     (member (codes "text") (text_data (text_of parts)) no_members))))))
 
+-- the object of an error (Unicode TS 35, Part 9, "Errors"; the names of the classes are this project's own)
+abbrev pub fault_data : Fault → Data
+fault_data fault = object (member (codes "kind") (string (class_of fault.kind)) (member (codes "of") (text_data fault.of) no_members))
+
+abbrev pub faults_data : List Fault → Data
+faults_data faults = array (items_of (map fault_data faults))
+
+-- the object of an invalid source
+abbrev pub invalid_data : List Fault → Data
+invalid_data faults = object (member (codes "errors") (faults_data faults) (member (codes "ok") (string (codes "lint")) no_members))
+
+-- the object of a valid source
+abbrev pub valid_data : List ℕ → Data
+valid_data source =
+    object (member (codes "errors") (array no_items) (member (codes "ok") (string (codes "lint")) (member (codes "source") (text_data source) no_members)))
+
 -- the JSON value of a reply
 abbrev pub reply_data : Reply → Data
 reply_data (Accepted edition op) = object (member (codes "edition") (number (unsigned edition)) (member (codes "ok") (string (op_name op)) no_members))
 reply_data (Formatted edition tag parts) = formatted_data edition tag parts
+reply_data (LintValid source) = valid_data source
+reply_data (LintInvalid faults) = invalid_data faults
 reply_data BadJson = error_data (codes "bad-json")
+reply_data (BadRequest field) =
+    object (member (codes "error") (string (codes "bad-request")) (member (codes "field") (string (field_name field)) no_members))
 reply_data NotBuilt = error_data (codes "not-built")
 reply_data (NoMessage edition) =
     object (member (codes "edition") (number (unsigned edition)) (member (codes "error") (string (codes "no-message")) no_members))
+reply_data (NotYet edition since) = object
+    (member (codes "edition") (number (unsigned edition))
+    (member (codes "error") (string (codes "not-yet"))
+    (member (codes "since") (number (unsigned since)) no_members)))
 
 -- the bytes of a reply's line, without its line feed
 abbrev pub reply_line : Reply → List ℕ

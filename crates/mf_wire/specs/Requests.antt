@@ -1,46 +1,71 @@
--- What a line asks for.
-use Rattle.std.specs.Prelude.{ℕ, List, chars, codes, Option, Some, None, option_map, option_and_then, is_some, if◌then◌else◌, Result, Err}
-use Rattle.std.specs.Option.{ok_or}
+-- What a line asks for, or the reply that refuses it.
+use Rattle.std.specs.Prelude.{◌≡◌, ℕ, List, chars, codes, Option, Some, None, if◌then◌else◌, Result, Ok, Err}
 use Rattle.std.specs.Str.{bytes_eq}
 use Rattle.serde_json.specs.Data.{Data}
 use Rattle.serde_json.specs.Find.{get}
 use Rattle.mf_edition.specs.declared.change.Change.TheVariants.{Catalogue}
-use Rattle.mf_wire.specs.Fields.{string_field, tag_field, catalogue_field, arguments_of}
+use Rattle.mf_wire.specs.Fields.{string_field, tag_field, catalogue_field, arguments_of, since_of}
 use Rattle.mf_wire.specs.Reading.{reading}
+use Rattle.mf_wire.specs.declared.field.Field.{Field}
+use Rattle.mf_wire.specs.declared.field.Field.TheVariants as field
+use Rattle.mf_wire.specs.declared.reading.WireError.{WireError}
+use Rattle.mf_wire.specs.declared.reading.WireError.TheVariants as error
 use Rattle.mf_wire.specs.declared.reply.Reply.{Reply}
-use Rattle.mf_wire.specs.declared.reply.Reply.TheVariants.{BadJson, NotBuilt}
+use Rattle.mf_wire.specs.declared.reply.Reply.TheVariants.{BadJson, BadRequest, NotBuilt}
 use Rattle.mf_wire.specs.declared.request.Request.{Request}
-use Rattle.mf_wire.specs.declared.request.Request.TheVariants.{Publish, Format}
+use Rattle.mf_wire.specs.declared.request.Request.TheVariants.{Publish, Format, Lint}
+
+-- what is asked for with the value of a field, or the refusal that names the field, where it is missing, of another kind
+-- or out of range
+abbrev pub need : {X : Type 0} → Field → Option X → (X → Result Request Reply) → Result Request Reply
+need field None asked = Err (BadRequest field)
+need field (Some value) asked = asked value
 
 -- a publication of messages: a tag and a catalogue
-abbrev pub publish_request : Data → Option Request
+abbrev pub publish_request : Data → Result Request Reply
 publish_request request =
-    option_and_then
-    (λ tag. option_map (λ messages. Publish (Catalogue tag messages)) (catalogue_field (codes "messages") request))
-    (tag_field (codes "locale") request)
+    need field.Locale (tag_field (codes "locale") request)
+    (λ tag. need field.Messages (catalogue_field (codes "messages") request)
+    (λ messages. Ok (Publish (Catalogue tag messages))))
 
--- a request for a sentence: a tag, an id and arguments; `since` isn't built yet
-abbrev pub format_request : Data → Option Request
+-- a request for a sentence: a tag, an id, arguments, and the least edition that it may come from
+abbrev pub format_request : Data → Result Request Reply
 format_request request =
-    if is_some (get (codes "since") request) then None else option_and_then
-    (λ tag. option_and_then
-    (λ id. option_map (λ arguments. Format tag (chars id) arguments) (arguments_of (get (codes "args") request)))
-    (string_field (codes "id") request))
-    (tag_field (codes "locale") request)
+    need field.Locale (tag_field (codes "locale") request)
+    (λ tag. need field.Id (string_field (codes "id") request)
+    (λ id. need field.Args (arguments_of (get (codes "args") request))
+    (λ arguments. need field.Since (since_of (get (codes "since") request))
+    (λ since. Ok (Format tag (chars id) arguments since)))))
 
--- what an object with this `op` asks for, where it is built
-abbrev pub request_by : List ℕ → Data → Option Request
+-- a request to lint a source
+abbrev pub lint_request : Data → Result Request Reply
+lint_request request = need field.Source (string_field (codes "source") request) (λ source. Ok (Lint (chars source)))
+
+-- what an object with this `op` asks for; two of the six aren't built yet
+abbrev pub request_by : List ℕ → Data → Result Request Reply
 request_by op request =
-    if bytes_eq op (codes "publish") then publish_request request else (if bytes_eq op (codes "format") then format_request request else None)
+    if bytes_eq op (codes "publish") then publish_request request else
+    (if bytes_eq op (codes "format") then format_request request else
+    (if bytes_eq op (codes "lint") then lint_request request else
+    (if bytes_eq op (codes "locale") then Err NotBuilt else
+    (if bytes_eq op (codes "handler") then Err NotBuilt else
+    (if bytes_eq op (codes "stat") then Err NotBuilt else Err (BadRequest field.Op))))))
 
--- what a JSON value asks for, where it is built
-abbrev pub request_from : Data → Option Request
-request_from value = option_and_then (λ op. request_by op value) (string_field (codes "op") value)
+-- what a JSON value asks for
+abbrev pub request_from : Data → Result Request Reply
+request_from value = need field.Op (string_field (codes "op") value) (λ op. request_by op value)
 
 abbrev pub request_read : Option Data → Result Request Reply
 request_read None = Err BadJson
-request_read (Some value) = ok_or (request_from value) NotBuilt
+request_read (Some value) = request_from value
 
 -- the request of a line, or the reply that refuses it
 abbrev pub request_of : List ℕ → Result Request Reply
 request_of line = request_read (reading line)
+
+-- the refusal is the one that is due; nothing is said of want of memory
+abbrev pub IsDue : Result Request Reply → WireError → Type 0
+IsDue asked error.BadJson = asked ≡ Err BadJson
+IsDue asked (error.BadRequest field) = asked ≡ Err (BadRequest field)
+IsDue asked error.NotBuilt = asked ≡ Err NotBuilt
+IsDue asked error.OutOfMemory = Unit {0}

@@ -5,7 +5,7 @@ ghost use Rattle.serde_json.specs.View.{view, members_view};
 ghost use Rattle.mf_wire.specs.Fields as fields;
 
 use mf_locale::{LocaleError, Tag, read_tag};
-use mf_text::{Argued, Arguments, Pair, Pairs, Text};
+use mf_text::{Argued, Arguments, Pair, Pairs, Text, nfc};
 use serde_json::{Map, Value};
 use std::alloc::{AllocError, Global};
 
@@ -76,7 +76,7 @@ fn is_catalogue_size(count: usize) -> bool
 fn messages(alloc: Global, members: &Map<String, Value>) -> Result<Option<Pairs>, AllocError>
     ensures { IfOk result (λ messages. messages ≡ fields.messages_from (members_view members.now.entries)) }
 {
-    let mut messages = Pairs::new(alloc);
+    let mut messages = Pairs::with_capacity(alloc, members.len())?;
     for (id, source) in members {
         let Some(message) = message(alloc, id.as_str(), source)? else {
             return Ok(None);
@@ -118,7 +118,7 @@ pub(crate) fn arguments_field(
     arguments(alloc, members)
 }
 
-/// The arguments of an object.
+/// The arguments of an object: none where two names have one normal form.
 fn arguments(alloc: Global, members: &Map<String, Value>) -> Result<Option<Arguments>, AllocError>
     ensures { IfOk result (λ arguments. arguments ≡ fields.arguments_from (members_view members.now.entries) []) }
 {
@@ -127,29 +127,52 @@ fn arguments(alloc: Global, members: &Map<String, Value>) -> Result<Option<Argum
         let Some((name, value)) = argument(alloc, name.as_str(), value)? else {
             return Ok(None);
         };
+        if arguments.find(&name).is_some() {
+            return Ok(None);
+        }
         arguments.set(name, value)?;
     }
     Ok(Some(arguments))
 }
 
-/// An argument.
+/// An argument, whose name is taken in Normalization Form C (Unicode Standard Annex 15).
 fn argument(alloc: Global, name: &str, value: &Value) -> Result<Option<(Text, Argued)>, AllocError>
     ensures { IfOk result (λ argument. argument ≡ fields.argument_from name.now (view value.now)) }
 {
-    if !is_ascii(name) {
-        return Ok(None);
-    }
-    let Some(text) = value.as_str() else {
+    let Some(argued) = argued(alloc, value)? else {
         return Ok(None);
     };
-    let name = Text::of(alloc, name)?;
-    let text = Text::of(alloc, text)?;
-    Ok(Some((name, Argued::Text(text))))
+    let name = nfc(alloc, name)?;
+    Ok(Some((name, argued)))
 }
 
-/// Whether a text has ASCII characters alone.
-fn is_ascii(text: &str) -> bool
-    ensures { result ≡ fields.is_ascii text.now }
+/// The value of an argument: a text, or a whole number.
+fn argued(alloc: Global, value: &Value) -> Result<Option<Argued>, AllocError>
+    ensures { IfOk result (λ argued. argued ≡ fields.argued_from (view value.now)) }
 {
-    text.bytes().all(|byte| byte < 128)
+    let Some(text) = value.as_str() else {
+        return Ok(argued_number(value));
+    };
+    let text = Text::of(alloc, text)?;
+    Ok(Some(Argued::Text(text)))
+}
+
+/// A whole number as an argument: with a sign where 64 bits with a sign hold it, else without one.
+fn argued_number(value: &Value) -> Option<Argued>
+    ensures { result ≡ fields.argued_number (view value.now) }
+{
+    match value.as_i64() {
+        Some(number) => Some(Argued::Signed(number)),
+        None => value.as_u64().map(Argued::Unsigned),
+    }
+}
+
+/// The least edition that a format may come from: 0 where the field is missing.
+pub(crate) fn since_field(object: &Value, name: &str) -> Option<u64>
+    ensures { result ≡ fields.since_of (get name.now (view object.now)) }
+{
+    match object.get(name) {
+        Some(value) => value.as_u64(),
+        None => Some(0),
+    }
 }

@@ -4,13 +4,18 @@
 //! line of compact JSON, the keys of every object in byte order.
 #![tactic(auto)]
 
+mod field;
 mod fields;
 mod lines;
 mod reading;
 mod reply;
 mod request;
 
+pub use field::Field;
 pub use lines::first_line;
 pub use reading::WireError;
 pub use reply::{MEMORY_LINE, Op, Reply, reply_line};
 pub use request::{Request, read_request};
+
+#[cfg(test)]
+mod tests;

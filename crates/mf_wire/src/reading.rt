@@ -1,7 +1,8 @@
-ghost use Rattle.std.specs.Prelude.{◌≡◌, Some, None, IfOk, IsErrOf};
+ghost use Rattle.std.specs.Prelude.{◌≡◌, IfOk, option_map};
 ghost use Rattle.serde_json.specs.View.{view};
 ghost use Rattle.mf_wire.specs.Reading.{reading};
 
+use crate::field::Field;
 use serde_json::Value;
 use std::alloc::{AllocError, Global};
 use thiserror::Error;
@@ -13,6 +14,9 @@ pub enum WireError {
     /// 127 arrays and objects.
     #[error("the line is no JSON")]
     BadJson,
+    /// This field is the first that is missing, of another kind or out of range.
+    #[error("the field {} is missing or wrong", field.as_str())]
+    BadRequest { field: Field },
     /// The line is JSON, and asks for what isn't built yet.
     #[error("the line asks for what isn't built yet")]
     NotBuilt,
@@ -32,18 +36,16 @@ impl From<AllocError> for WireError {
     }
 }
 
-/// The JSON value of a line. Its only errors are `BadJson` and `OutOfMemory`.
-pub(crate) fn read_value(alloc: Global, line: &[u8]) -> Result<Value, WireError>
-    ensures value { IfOk result (λ v. reading line.now ≡ Some (view v)) }
-    ensures bad_json { IsErrOf result WireError.BadJson → reading line.now ≡ None }
-    ensures built { ¬ IsErrOf result WireError.NotBuilt }
+/// The JSON value of a line, or none where the line is no JSON.
+pub(crate) fn read_value(alloc: Global, line: &[u8]) -> Result<Option<Value>, AllocError>
+    ensures { IfOk result (λ value. option_map view value ≡ reading line.now) }
 {
     let Ok(text) = str::from_utf8(line) else {
-        return Err(WireError::BadJson);
+        return Ok(None);
     };
     match Value::from_str(alloc, text) {
-        Ok(value) => Ok(value),
-        Err(error) if error.is_memory() => Err(WireError::OutOfMemory),
-        Err(_) => Err(WireError::BadJson),
+        Ok(value) => Ok(Some(value)),
+        Err(error) if error.is_memory() => Err(AllocError),
+        Err(_) => Ok(None),
     }
 }

@@ -1,10 +1,12 @@
 ghost use Rattle.std.specs.Prelude.{◌≡◌, IfOk, encode_utf8_all};
 ghost use Rattle.serde_json.specs.View.{view};
-ghost use Rattle.mf_wire.specs.Replies.{error_data, formatted_data, op_name as op_text, part_data, parts_data, reply_data, reply_line as line_of, string_data};
+ghost use Rattle.mf_wire.specs.Replies.{error_data, fault_data, faults_data, formatted_data, invalid_data, op_name as op_text, part_data, parts_data, reply_data, reply_line as line_of, string_data};
 
+use crate::field::Field;
 use mf_locale::Tag;
 use mf_parts::{Part, Parts, joined};
 use mf_text::Text;
+use mf_tree::{Fault, Faults};
 use serde_json::{Value, json};
 use std::alloc::{AllocError, Global};
 
@@ -29,13 +31,30 @@ pub enum Reply {
         tag: Tag,
         parts: Parts,
     },
+    /// The source is valid, and this is its canonical form.
+    LintValid {
+        source: Text,
+    },
+    /// The source is invalid, and these are its errors.
+    LintInvalid {
+        faults: Faults,
+    },
     /// The line is no JSON.
     BadJson,
+    /// This field is the first that is missing, of another kind or out of range.
+    BadRequest {
+        field: Field,
+    },
     /// The line is JSON, and asks for what isn't built yet.
     NotBuilt,
     /// No tag of the chain has the id in this edition.
     NoMessage {
         edition: u64,
+    },
+    /// This edition is the newest, and the request asks for a later one.
+    NotYet {
+        edition: u64,
+        since: u64,
     },
 }
 
@@ -63,10 +82,17 @@ fn reply_value(alloc: Global, reply: &Reply) -> Result<Value, AllocError>
             tag,
             parts,
         } => formatted_value(alloc, *edition, tag, parts),
+        Reply::LintValid { source } =>
+            json!(in alloc; {"errors": [], "ok": "lint", "source": source.as_str()}),
+        Reply::LintInvalid { faults } => invalid_value(alloc, faults),
         Reply::BadJson => error_value(alloc, "bad-json"),
+        Reply::BadRequest { field } =>
+            json!(in alloc; {"error": "bad-request", "field": field.as_str()}),
         Reply::NotBuilt => error_value(alloc, "not-built"),
         Reply::NoMessage { edition } =>
             json!(in alloc; {"edition": *edition, "error": "no-message"}),
+        Reply::NotYet { edition, since } =>
+            json!(in alloc; {"edition": *edition, "error": "not-yet", "since": *since}),
     }
 }
 
@@ -105,6 +131,32 @@ fn formatted_value(
         "parts": parts,
         "text": text.as_str()
     })
+}
+
+/// The object of an invalid source.
+fn invalid_value(alloc: Global, faults: &Faults) -> Result<Value, AllocError>
+    ensures { IfOk result (λ v. view v ≡ invalid_data faults.now) }
+{
+    let faults = faults_value(alloc, faults)?;
+    json!(in alloc; {"errors": faults, "ok": "lint"})
+}
+
+/// The objects of errors.
+fn faults_value(alloc: Global, faults: &Faults) -> Result<Value, AllocError>
+    ensures { IfOk result (λ v. view v ≡ faults_data faults.now) }
+{
+    let mut values = Vec::new(alloc);
+    for fault in faults.as_slice() {
+        values.push(fault_value(alloc, fault)?)?;
+    }
+    Ok(Value::Array(values))
+}
+
+/// The object of an error.
+fn fault_value(alloc: Global, fault: &Fault) -> Result<Value, AllocError>
+    ensures { IfOk result (λ v. view v ≡ fault_data fault.now) }
+{
+    json!(in alloc; {"kind": fault.kind.as_str(), "of": fault.of.as_str()})
 }
 
 /// The objects of parts.

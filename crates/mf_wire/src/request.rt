@@ -1,26 +1,32 @@
-ghost use Rattle.std.specs.Prelude.{◌≡◌, Some, None, Ok, Err, IfOk, IsErrOf};
+ghost use Rattle.std.specs.Prelude.{◌≡◌, Ok, IfErr, IfOk};
 ghost use Rattle.serde_json.specs.View.{view};
-ghost use Rattle.mf_wire.specs.Requests.{format_request, publish_request, request_from, request_of};
+ghost use Rattle.mf_wire.specs.Requests.{format_request, lint_request, publish_request, request_by, request_from, request_of, IsDue};
 
-use crate::fields::{arguments_field, catalogue_field, string_field, tag_field};
+use crate::field::Field;
+use crate::fields::{arguments_field, catalogue_field, since_field, string_field, tag_field};
 use crate::reading::{WireError, read_value};
-use crate::reply::Reply;
 use mf_edition::Change;
 use mf_locale::Tag;
 use mf_text::{Arguments, Text};
 use serde_json::Value;
-use std::alloc::{AllocError, Global};
+use std::alloc::Global;
 
 /// What a line asks for.
 #[derive(Debug, Drop)]
 pub enum Request {
     /// Publish a change.
     Publish(Change),
-    /// Format the message of an id, looked up along the chain of a tag.
+    /// Format the message of an id, looked up along the chain of a tag, with arguments whose names are in
+    /// Normalization Form C, in an edition of at least this number.
     Format {
         tag: Tag,
         id: Text,
         arguments: Arguments,
+        since: u64,
+    },
+    /// Lint a source.
+    Lint {
+        source: Text,
     },
 }
 
@@ -28,59 +34,101 @@ pub enum Request {
 ///
 /// # Errors
 ///
-/// `BadJson`, `NotBuilt` and `OutOfMemory`.
+/// `BadJson`, `BadRequest` with the first field that is missing, of another kind or out of range, `NotBuilt` and
+/// `OutOfMemory`.
 pub fn read_request(alloc: Global, line: &[u8]) -> Result<Request, WireError>
     ensures request { IfOk result (λ request. request_of line.now ≡ Ok request) }
-    ensures bad_json { IsErrOf result WireError.BadJson → request_of line.now ≡ Err Reply.BadJson }
-    ensures not_built { IsErrOf result WireError.NotBuilt → request_of line.now ≡ Err Reply.NotBuilt }
+    ensures refused { IfErr result (IsDue (request_of line.now)) }
 {
-    let value = read_value(alloc, line)?;
-    match asked(alloc, &value)? {
-        Some(request) => Ok(request),
-        None => Err(WireError::NotBuilt),
+    let Some(value) = read_value(alloc, line)? else {
+        return Err(WireError::BadJson);
+    };
+    asked(alloc, &value)
+}
+
+/// What a JSON value asks for.
+fn asked(alloc: Global, value: &Value) -> Result<Request, WireError>
+    ensures request { IfOk result (λ request. request_from (view value.now) ≡ Ok request) }
+    ensures refused { IfErr result (IsDue (request_from (view value.now))) }
+{
+    match string_field(value, "op") {
+        Some(op) => asked_by(alloc, op, value),
+        None => Err(WireError::BadRequest { field: Field::Op }),
     }
 }
 
-/// What a JSON value asks for, where it is built.
-fn asked(alloc: Global, value: &Value) -> Result<Option<Request>, AllocError>
-    ensures { IfOk result (λ request. request ≡ request_from (view value.now)) }
+/// What an object with this `op` asks for.
+fn asked_by(alloc: Global, op: &str, value: &Value) -> Result<Request, WireError>
+    ensures request { IfOk result (λ request. request_by op.now (view value.now) ≡ Ok request) }
+    ensures refused { IfErr result (IsDue (request_by op.now (view value.now))) }
 {
-    match string_field(value, "op") {
-        Some("publish") => publication(alloc, value),
-        Some("format") => format(alloc, value),
-        _ => Ok(None),
+    match op {
+        "publish" => publication(alloc, value),
+        "format" => format(alloc, value),
+        "lint" => lint(alloc, value),
+        "locale" | "handler" | "stat" => Err(WireError::NotBuilt),
+        _ => Err(WireError::BadRequest { field: Field::Op }),
     }
 }
 
 /// A publication of messages.
-fn publication(alloc: Global, value: &Value) -> Result<Option<Request>, AllocError>
-    ensures { IfOk result (λ request. request ≡ publish_request (view value.now)) }
+fn publication(alloc: Global, value: &Value) -> Result<Request, WireError>
+    ensures request { IfOk result (λ request. publish_request (view value.now) ≡ Ok request) }
+    ensures refused { IfErr result (IsDue (publish_request (view value.now))) }
 {
     let Some(tag) = tag_field(alloc, value, "locale")? else {
-        return Ok(None);
+        return Err(WireError::BadRequest {
+            field: Field::Locale,
+        });
     };
     let Some(messages) = catalogue_field(alloc, value, "messages")? else {
-        return Ok(None);
+        return Err(WireError::BadRequest {
+            field: Field::Messages,
+        });
     };
-    Ok(Some(Request::Publish(Change::Catalogue { tag, messages })))
+    Ok(Request::Publish(Change::Catalogue { tag, messages }))
 }
 
 /// A request for a sentence.
-fn format(alloc: Global, value: &Value) -> Result<Option<Request>, AllocError>
-    ensures { IfOk result (λ request. request ≡ format_request (view value.now)) }
+fn format(alloc: Global, value: &Value) -> Result<Request, WireError>
+    ensures request { IfOk result (λ request. format_request (view value.now) ≡ Ok request) }
+    ensures refused { IfErr result (IsDue (format_request (view value.now))) }
 {
-    if value.get("since").is_some() {
-        return Ok(None);
-    }
     let Some(tag) = tag_field(alloc, value, "locale")? else {
-        return Ok(None);
+        return Err(WireError::BadRequest {
+            field: Field::Locale,
+        });
     };
     let Some(id) = string_field(value, "id") else {
-        return Ok(None);
+        return Err(WireError::BadRequest { field: Field::Id });
     };
     let Some(arguments) = arguments_field(alloc, value, "args")? else {
-        return Ok(None);
+        return Err(WireError::BadRequest { field: Field::Args });
+    };
+    let Some(since) = since_field(value, "since") else {
+        return Err(WireError::BadRequest {
+            field: Field::Since,
+        });
     };
     let id = Text::of(alloc, id)?;
-    Ok(Some(Request::Format { tag, id, arguments }))
+    Ok(Request::Format {
+        tag,
+        id,
+        arguments,
+        since,
+    })
+}
+
+/// A request to lint a source.
+fn lint(alloc: Global, value: &Value) -> Result<Request, WireError>
+    ensures request { IfOk result (λ request. lint_request (view value.now) ≡ Ok request) }
+    ensures refused { IfErr result (IsDue (lint_request (view value.now))) }
+{
+    let Some(source) = string_field(value, "source") else {
+        return Err(WireError::BadRequest {
+            field: Field::Source,
+        });
+    };
+    let source = Text::of(alloc, source)?;
+    Ok(Request::Lint { source })
 }

@@ -18,11 +18,11 @@ no_reading line no_text =
 text_reading : (line : List ℕ) → IsUtf8 line → reading line ≡ read line
 text_reading line text = ap (λ (b : Bool). cond b (read line) None) (is_utf8-from_IsUtf8 line text)
 
-pub returns-in_default-clause-bad_json : goal.returns-in_default-clause-bad_json
-returns-in_default-clause-bad_json c = λ _. no_reading c.args.line.now c.in_default.ensures.cases.0
+pub returns-in_default : goal.returns-in_default
+returns-in_default c = sym (no_reading c.args.line.now c.in_default.ensures.cases.0)
 
-pub returns-in-Ok-from_str-clause-value : goal.returns-in-Ok-from_str-clause-value
-returns-in-Ok-from_str-clause-value c =
+pub returns-in-Ok-from_str : goal.returns-in-Ok-from_str
+returns-in-Ok-from_str c = sym (
     text_reading c.args.line.now c.in-Ok.ensures.cases.1
     ∙ ap read (sym c.in-Ok.ensures.cases.0)
-    ∙ c.in-Ok-from_str.ensures.ok
+    ∙ c.in-Ok-from_str.ensures.ok)

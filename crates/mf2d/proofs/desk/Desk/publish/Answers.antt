@@ -1,13 +1,12 @@
-use Rattle.std.proofs.Common.{◌≡◌, ◌∙◌, ℕ, ◌+◌, List, [], ◌∷◌, ◌++◌, length, encode_utf8_all, ap, sym, subst}
-use Rattle.std.specs.Bool.{MatchBool}
+use Rattle.std.proofs.Common.{◌≡◌, ◌∙◌, ℕ, ◌+◌, List, [], ◌∷◌, ◌++◌, length, encode_utf8_all, ap, sym}
 use Rattle.mf_edition.specs.Edition.{EditionState, edition_of, next_edition}
 use Rattle.mf_edition.specs.declared.change.Change.{Change}
 use Rattle.mf_edition.specs.declared.change.Entry.{Entry}
 use Rattle.mf_wire.specs.Replies.{reply_line}
 use Rattle.mf_wire.specs.declared.reply.Op.TheVariants as op
-use Rattle.mf_wire.specs.declared.reply.Reply.TheVariants.{Accepted, NotBuilt}
+use Rattle.mf_wire.specs.declared.reply.Reply.TheVariants.{Accepted}
 use Rattle.mf2d.proofs.Editions.{newest-push, newest-number}
-use Rattle.mf2d.specs.Served.{Desk, Accepts, Replies}
+use Rattle.mf2d.specs.Served.{Desk, Accepts}
 use Rattle.mf2d.proofs.desk.Desk.publish.Goals as goal
 
 -- the edition after the newest one is the newest of the log with the entry
@@ -44,9 +43,6 @@ returns-clause-ok c =
     let reply = encode_utf8_all c.in_ok-reply.reply in
     let after = c.publish.new.self in
     let change = c.args.change in
-    let so : Accepts change desk reply after =
     accepted log after desk change (c.number-number.result + 1) reply c.self.view_is
     (next_number log c.self.inside.newest c.number-number.result c.self.invariant c.number-number.ensures)
-    c.in_ok-reply.ensures c.in_default.ensures.log in
-    subst (λ test. MatchBool test (Accepts change desk reply after) (Replies NotBuilt desk reply after))
-    (sym c.if-not-branch.false ∙ c.in_ok-is_flat.ensures) so
+    c.in_ok-reply.ensures c.in_default.ensures.log

@@ -2,7 +2,7 @@ use Rattle.std.proofs.Common.{ap, ◌∙◌, nat_eq}
 use Rattle.std.proofs.lemmas.Str.{IsUtf8-string_bytes}
 use Rattle.std.specs.Cmp.Lexicographic.{pointwise}
 use Rattle.std.specs.Prelude.{chars, string_bytes}
-use Rattle.mf_text.proofs.Characters.{same_tests}
+use Rattle.mf_text.proofs.SameTexts.{same_tests}
 use Rattle.mf_text.proofs.text.TextPartialEq.eq.Goals as goal
 
 pub returns : goal.returns

@@ -1,0 +1,6 @@
+pub mod Collected
+pub mod First
+pub mod Listed
+pub mod Seen
+pub mod Texts
+pub mod Walk

@@ -1,0 +1,12 @@
+pub mod Begins
+pub mod Escapes
+pub mod Gathering
+pub mod Identifiers
+pub mod Literals
+pub mod Members
+pub mod Names
+pub mod Passing
+pub mod Readings
+pub mod Runs
+pub mod Shorter
+pub mod Spaces

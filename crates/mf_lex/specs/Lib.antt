@@ -1,0 +1,5 @@
+pub mod Classes
+pub mod Cursor
+pub mod Reading
+pub mod Readers
+pub mod Laws

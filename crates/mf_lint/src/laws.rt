@@ -1,0 +1,22 @@
+//! What holds of canonical sources: each clause is a theorem over the definitions alone.
+ghost use Rattle.mf_lint.specs.Laws.{CanonicalIsSpelledBack, CanonicalIsStable, CanonicalTellsNodes, LintIsStable};
+
+/// A message that is printed and read again is the same message.
+pub fn what_is_printed_is_read_back()
+    ensures { CanonicalIsSpelledBack }
+{}
+
+/// What is printed, read and printed again is the same text.
+pub fn printing_is_stable()
+    ensures { CanonicalIsStable }
+{}
+
+/// Two texts spell one message exactly where their canonical sources are equal.
+pub fn canonical_sources_tell_messages()
+    ensures { CanonicalTellsNodes }
+{}
+
+/// A canonical source that is linted is valid, and its own canonical source.
+pub fn linting_is_stable()
+    ensures { LintIsStable }
+{}

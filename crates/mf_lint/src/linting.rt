@@ -1,0 +1,28 @@
+ghost use Rattle.std.specs.Prelude.{◌≡◌, IfOk, chars};
+ghost use Rattle.mf_lint.specs.Lint.{lint_of};
+
+use mf_plan::Plan;
+use mf_print::print;
+use mf_text::Text;
+use mf_tree::Faults;
+use std::alloc::{AllocError, Global};
+
+/// What there is to say of a source.
+#[derive(Debug, Drop)]
+pub enum Linted {
+    /// The source is valid, and this is the canonical one of its message.
+    Valid(Text),
+    /// The errors that make it invalid, at least one.
+    Invalid(Faults),
+}
+
+/// What there is to say of a source. Source: Unicode TS 35, Part 9, "Syntax Errors" and "Data Model Errors"; the choice
+/// of a canonical source is this project's own.
+pub fn lint(alloc: Global, source: &str) -> Result<Linted, AllocError>
+    ensures { IfOk result (λ linted. linted ≡ lint_of (chars source.now)) }
+{
+    match Plan::of(alloc, source)? {
+        Plan::Valid(message) => Ok(Linted::Valid(print(alloc, &message)?)),
+        Plan::Invalid(faults) => Ok(Linted::Invalid(faults)),
+    }
+}

@@ -1,0 +1,4 @@
+pub mod Taking
+pub mod Grouped
+pub mod Joining
+pub mod Lengths

@@ -1,0 +1,4 @@
+pub mod Signs
+pub mod Groups
+pub mod NumberText
+pub mod Spans

@@ -1,0 +1,95 @@
+//! Markup and placeholders, one function a production.
+ghost use Rattle.std.specs.Prelude.{◌≡◌, Some, None, IfOk, IsErrOf};
+ghost use Rattle.mf_parse.specs.Syntax.{closing_at, form_at, inner_placeholder_at, opening_at, placeholder_at};
+
+use crate::error::ParseError;
+use crate::expression::{attributes, identifier, inner_expression, last_attributes, options};
+use crate::spaces::pass_opening;
+use mf_lex::Cursor;
+use mf_tree::{Form, Markup, Piece};
+use std::alloc::Global;
+
+/// `o ["/"] "}"`
+#[tactic(auto, using(crate::proofs::Choices::standalone_found, crate::proofs::Choices::standalone_none, crate::proofs::Choices::start_found, crate::proofs::Choices::start_none))]
+fn form(cursor: &mut Cursor) -> Result<Form, ParseError>
+    ensures found { IfOk result (λ form. form_at cursor.old.left ≡ Some (form, cursor.new.left)) }
+    ensures none { IsErrOf result ParseError.Syntax → form_at cursor.old.left ≡ None }
+{
+    cursor.o();
+    if cursor.one('/') {
+        if !cursor.one('}') {
+            return Err(ParseError::Syntax);
+        }
+        return Ok(Form::Standalone);
+    }
+    if !cursor.one('}') {
+        return Err(ParseError::Syntax);
+    }
+    Ok(Form::Start)
+}
+
+/// Markup behind its `#`.
+#[tactic(auto, using(crate::proofs::Chains::opening_found, crate::proofs::Chains::opening_none_1, crate::proofs::Chains::opening_none_2, crate::proofs::Chains::opening_none_3, crate::proofs::Chains::opening_none_4))]
+fn opening(alloc: Global, cursor: &mut Cursor) -> Result<Markup, ParseError>
+    ensures found { IfOk result (λ markup. opening_at cursor.old.left ≡ Some (markup, cursor.new.left)) }
+    ensures none { IsErrOf result ParseError.Syntax → opening_at cursor.old.left ≡ None }
+{
+    let name = identifier(alloc, cursor)?;
+    let options = options(alloc, cursor)?;
+    let attributes = attributes(alloc, cursor)?;
+    let form = form(cursor)?;
+    Ok(Markup {
+        form,
+        name,
+        options,
+        attributes,
+    })
+}
+
+/// Markup behind its `/`.
+#[tactic(auto, using(crate::proofs::Chains::closing_found, crate::proofs::Chains::closing_none_1, crate::proofs::Chains::closing_none_2, crate::proofs::Chains::closing_none_3))]
+fn closing(alloc: Global, cursor: &mut Cursor) -> Result<Markup, ParseError>
+    ensures found { IfOk result (λ markup. closing_at cursor.old.left ≡ Some (markup, cursor.new.left)) }
+    ensures none { IsErrOf result ParseError.Syntax → closing_at cursor.old.left ≡ None }
+{
+    let name = identifier(alloc, cursor)?;
+    let options = options(alloc, cursor)?;
+    let attributes = last_attributes(alloc, cursor)?;
+    Ok(Markup {
+        form: Form::End,
+        name,
+        options,
+        attributes,
+    })
+}
+
+/// A placeholder behind its brace and the space.
+#[tactic(auto, using(crate::proofs::Choices::opening_markup_found, crate::proofs::Choices::opening_markup_none, crate::proofs::Choices::closing_markup_found, crate::proofs::Choices::closing_markup_none, crate::proofs::Choices::placeholder_value_found, crate::proofs::Choices::placeholder_value_none))]
+fn inner_placeholder(alloc: Global, cursor: &mut Cursor) -> Result<Piece, ParseError>
+    ensures found { IfOk result (λ piece. inner_placeholder_at cursor.old.left ≡ Some (piece, cursor.new.left)) }
+    ensures none { IsErrOf result ParseError.Syntax → inner_placeholder_at cursor.old.left ≡ None }
+{
+    if cursor.one('#') {
+        let markup = opening(alloc, cursor)?;
+        return Ok(Piece::Markup(markup));
+    }
+    if cursor.one('/') {
+        let markup = closing(alloc, cursor)?;
+        return Ok(Piece::Markup(markup));
+    }
+    let expression = inner_expression(alloc, cursor)?;
+    Ok(Piece::Expression(expression))
+}
+
+/// `placeholder`
+#[tactic(auto, using(crate::proofs::Choices::placeholder_found, crate::proofs::Choices::placeholder_none_1, crate::proofs::Choices::placeholder_none_2))]
+pub fn placeholder(alloc: Global, cursor: &mut Cursor) -> Result<Piece, ParseError>
+    ensures found { IfOk result (λ piece. placeholder_at cursor.old.left ≡ Some (piece, cursor.new.left)) }
+    ensures none { IsErrOf result ParseError.Syntax → placeholder_at cursor.old.left ≡ None }
+{
+    if !pass_opening(cursor) {
+        return Err(ParseError::Syntax);
+    }
+    let piece = inner_placeholder(alloc, cursor)?;
+    Ok(piece)
+}

@@ -1,0 +1,130 @@
+//! Patterns, one function a production.
+ghost use Rattle.std.specs.Prelude.{◌≡◌, ◌<◌, ◌++◌, ◌∷◌, true, false, Some, None, [], chars, length, string_bytes, IfOk, OnOk, IsErrOf, MatchOption, MatchBool};
+ghost use Rattle.mf_tree.specs.Spells.{character as as_item};
+ghost use Rattle.mf_tree.specs.declared.pattern.Piece.TheVariants as Pieces;
+ghost use Rattle.mf_parse.specs.Syntax.{goes_on as pattern_goes_on, is_at, item_at, made, onto, pattern_at, quoted_pattern_at, text_ends, word_at};
+
+use crate::error::ParseError;
+use crate::markup::placeholder;
+use crate::spaces::is_next;
+use mf_lex::Cursor;
+use mf_text::{Text, is_text};
+use mf_tree::{Pattern, Piece};
+use std::alloc::{AllocError, Global};
+
+/// Passes these characters, if they are the next ones.
+pub fn pass_word(cursor: &mut Cursor, word: &[char]) -> bool
+    ensures { MatchBool result (word_at word.now cursor.old.left ≡ Some cursor.new.left) ((word_at word.now cursor.old.left ≡ None) × (cursor.new.left ≡ cursor.old.left)) }
+{
+    let mut ahead = cursor.save();
+    for c in word {
+        if !ahead.one(*c) {
+            return false;
+        }
+    }
+    *cursor = ahead;
+    true
+}
+
+/// Whether a pattern goes on: the next character is no closing brace.
+fn goes_on(cursor: &Cursor) -> bool
+    ensures { result ≡ pattern_goes_on cursor.now.left }
+{
+    match cursor.peek() {
+        Some(c) => c != '}',
+        None => false,
+    }
+}
+
+/// The next character of a text, plain or escaped, if the text goes on.
+#[tactic(auto, using(crate::proofs::Texts::plain_item, crate::proofs::Texts::escaped_item))]
+fn character(cursor: &mut Cursor) -> Result<Option<char>, ParseError>
+    ensures found { IfOk result (λ found. MatchOption found
+        ((text_ends cursor.old.left ≡ true) × (cursor.new.left ≡ cursor.old.left))
+        (λ c. (pattern_goes_on cursor.old.left ≡ true) × (item_at cursor.old.left ≡ Some (as_item c, cursor.new.left)))) }
+    ensures none { IsErrOf result ParseError.Syntax → (pattern_goes_on cursor.old.left ≡ true) × (item_at cursor.old.left ≡ None) }
+{
+    let mut ahead = cursor.save();
+    let Some(c) = ahead.next() else {
+        return Ok(None);
+    };
+    if c == '{' || c == '}' {
+        return Ok(None);
+    }
+    if is_text(c) {
+        *cursor = ahead;
+        return Ok(Some(c));
+    }
+    match cursor.escape() {
+        Some(escaped) => Ok(Some(escaped)),
+        None => Err(ParseError::Syntax),
+    }
+}
+
+/// Puts a character at the end of a text.
+fn push_character(text: &mut String, c: char) -> Result<(), AllocError>
+    ensures { OnOk result (chars (string_bytes text.new) ≡ chars (string_bytes text.old) ++ c ∷ []) }
+{
+    text.push(c)
+}
+
+/// The longest text, which isn't empty.
+#[tactic(auto, using(crate::proofs::Texts::joins_none))]
+fn text(alloc: Global, cursor: &mut Cursor) -> Result<Text, ParseError>
+    requires { text_ends cursor.now.left ≡ false }
+    ensures found { IfOk result (λ text. pattern_at cursor.old.left ≡ made (onto (Pieces.Text text)) (pattern_at cursor.new.left)) }
+    ensures none { IsErrOf result ParseError.Syntax → pattern_at cursor.old.left ≡ None }
+    ensures shorter { IfOk result (λ text. length cursor.new.left < length cursor.old.left) }
+{
+    let mut text = String::new(alloc);
+    while let Some(c) = character(cursor)? {
+        push_character(&mut text, c)?;
+    }
+    Ok(Text::from(text))
+}
+
+/// The next piece of a pattern that goes on.
+#[tactic(auto, using(crate::proofs::Texts::placeholder_step, crate::proofs::Texts::placeholder_none, crate::proofs::Texts::placeholder_shorter))]
+fn piece(alloc: Global, cursor: &mut Cursor) -> Result<Piece, ParseError>
+    requires { pattern_goes_on cursor.now.left ≡ true }
+    ensures found { IfOk result (λ piece. pattern_at cursor.old.left ≡ made (onto piece) (pattern_at cursor.new.left)) }
+    ensures none { IsErrOf result ParseError.Syntax → pattern_at cursor.old.left ≡ None }
+    ensures shorter { IfOk result (λ piece. length cursor.new.left < length cursor.old.left) }
+{
+    if is_next(cursor, '{') {
+        let piece = placeholder(alloc, cursor)?;
+        return Ok(piece);
+    }
+    let text = text(alloc, cursor)?;
+    Ok(Piece::Text(text))
+}
+
+/// `pattern`
+#[tactic(auto, using(crate::proofs::Texts::piece_none, crate::proofs::Gathers::gathered_start))]
+pub fn pattern(alloc: Global, cursor: &mut Cursor) -> Result<Pattern, ParseError>
+    ensures found { IfOk result (λ pattern. pattern_at cursor.old.left ≡ Some (pattern, cursor.new.left)) }
+    ensures none { IsErrOf result ParseError.Syntax → pattern_at cursor.old.left ≡ None }
+{
+    let mut pieces = Pattern::new(alloc);
+    while goes_on(cursor) {
+        let piece = piece(alloc, cursor)?;
+        pieces.push(piece)?;
+    }
+    Ok(pieces)
+}
+
+/// `quoted-pattern`
+#[tactic(auto, using(crate::proofs::Chains::quoted_pattern_found, crate::proofs::Chains::quoted_pattern_none_1, crate::proofs::Chains::quoted_pattern_none_2, crate::proofs::Chains::quoted_pattern_none_3))]
+pub fn quoted_pattern(alloc: Global, cursor: &mut Cursor) -> Result<Pattern, ParseError>
+    ensures found { IfOk result (λ pattern. quoted_pattern_at cursor.old.left ≡ Some (pattern, cursor.new.left)) }
+    ensures none { IsErrOf result ParseError.Syntax → quoted_pattern_at cursor.old.left ≡ None }
+{
+    if !pass_word(cursor, &['{', '{']) {
+        return Err(ParseError::Syntax);
+    }
+    let pattern = pattern(alloc, cursor)?;
+    if !pass_word(cursor, &['}', '}']) {
+        return Err(ParseError::Syntax);
+    }
+    Ok(pattern)
+}

@@ -1,0 +1,90 @@
+//! Spaces, and the characters that they stand before.
+ghost use Rattle.std.specs.Prelude.{◌≡◌, ◌==◌, true, false, Some, None, MatchBool};
+ghost use Rattle.mf_text.specs.Characters.{is_name_start as has_name_start};
+ghost use Rattle.mf_lex.specs.Reading.{after_space, is_next as comes_next};
+ghost use Rattle.mf_parse.specs.Syntax.{behind_brace, behind_equals, inside, is_at, is_spaced};
+
+use mf_lex::Cursor;
+use mf_text::is_name_start;
+
+/// Whether a character is the next one.
+pub fn is_next(cursor: &Cursor, sign: char) -> bool
+    ensures { result ≡ is_at sign cursor.now.left }
+{
+    match cursor.peek() {
+        Some(c) => c == sign,
+        None => false,
+    }
+}
+
+/// Passes the space before a character, where there is white space in it.
+pub fn pass_space_before(cursor: &mut Cursor, sign: char) -> bool
+    ensures { MatchBool result
+        ((is_spaced (λ c. c == sign) cursor.old.left ≡ true) × (cursor.new.left ≡ after_space cursor.old.left))
+        ((is_spaced (λ c. c == sign) cursor.old.left ≡ false) × (cursor.new.left ≡ cursor.old.left)) }
+{
+    let mut ahead = cursor.save();
+    if ahead.s() && is_next(&ahead, sign) {
+        *cursor = ahead;
+        return true;
+    }
+    false
+}
+
+/// Passes the space before a name, where there is white space in it.
+pub fn pass_space_before_name(cursor: &mut Cursor) -> bool
+    ensures { MatchBool result
+        ((is_spaced has_name_start cursor.old.left ≡ true) × (cursor.new.left ≡ after_space cursor.old.left))
+        ((is_spaced has_name_start cursor.old.left ≡ false) × (cursor.new.left ≡ cursor.old.left)) }
+{
+    let mut ahead = cursor.save();
+    if ahead.s() && is_name_next(&ahead) {
+        *cursor = ahead;
+        return true;
+    }
+    false
+}
+
+/// Whether a character that a name may begin with is next.
+fn is_name_next(cursor: &Cursor) -> bool
+    ensures { result ≡ comes_next has_name_start cursor.now.left }
+{
+    match cursor.peek() {
+        Some(c) => is_name_start(c),
+        None => false,
+    }
+}
+
+/// Passes an equals sign with the space around it.
+#[tactic(auto, using(crate::proofs::Choices::equals_found, crate::proofs::Choices::equals_none))]
+pub fn pass_equals(cursor: &mut Cursor) -> bool
+    ensures { MatchBool result (behind_equals cursor.old.left ≡ Some cursor.new.left) (behind_equals cursor.old.left ≡ None) }
+{
+    cursor.o();
+    if !cursor.one('=') {
+        return false;
+    }
+    cursor.o();
+    true
+}
+
+/// Passes a closing brace with the space before it.
+#[tactic(auto, using(crate::proofs::Choices::closing_brace_found, crate::proofs::Choices::closing_brace_none))]
+pub fn pass_closing(cursor: &mut Cursor) -> bool
+    ensures { MatchBool result (behind_brace cursor.old.left ≡ Some cursor.new.left) (behind_brace cursor.old.left ≡ None) }
+{
+    cursor.o();
+    cursor.one('}')
+}
+
+/// Passes an opening brace with the space behind it.
+#[tactic(auto, using(crate::proofs::Choices::opening_brace_found, crate::proofs::Choices::opening_brace_none))]
+pub fn pass_opening(cursor: &mut Cursor) -> bool
+    ensures { MatchBool result (inside cursor.old.left ≡ Some cursor.new.left) (inside cursor.old.left ≡ None) }
+{
+    if !cursor.one('{') {
+        return false;
+    }
+    cursor.o();
+    true
+}

@@ -1,0 +1,12 @@
+-- What holds of every source.
+use Rattle.std.specs.Prelude.{◌≡◌, ℕ, List}
+use Rattle.mf_tree.specs.Compiled.{Compilation, Compiled}
+use Rattle.mf_plan.specs.Plans.{compilation, plan_of}
+
+-- a source compiles to what is computed
+abbrev pub IsCompiled : Type 0
+IsCompiled = (source : List ℕ) → Compiled source (compilation (plan_of source))
+
+-- a source compiles to one thing
+abbrev pub CompilesToOne : Type 0
+CompilesToOne = (source : List ℕ) (one other : Compilation) → Compiled source one → Compiled source other → one ≡ other

@@ -1,0 +1,15 @@
+pub mod Cutting
+pub mod Deciding
+pub mod Digits
+pub mod Gathering
+pub mod Lexing
+pub mod Meaning
+pub mod Numbering
+pub mod Options
+pub mod TokenMeaning
+pub mod Trimming
+pub mod Wholes
+pub mod Ends
+pub mod Spaced
+pub mod Apart
+pub mod Copied

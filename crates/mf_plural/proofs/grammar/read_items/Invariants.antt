@@ -1,0 +1,14 @@
+-- What is read so far and what is left are all.
+use Rattle.std.proofs.Common.{◌≡◌, ◌++◌}
+use Rattle.std.specs.Option.{option_copied, option_map}
+use Rattle.mf_plural.specs.Cuts.{between_rest, rest_len}
+use Rattle.mf_plural.specs.Reading.{item_of, items_of}
+use Rattle.mf_plural.specs.TokenReading.{all_of}
+use Rattle.mf_plural.specs.declared.token.Separator.TheVariants.{BetweenItems}
+use Rattle.mf_plural.proofs.grammar.read_items.Given as goal
+
+abbrev pub invariant-loop-rest : goal.invariant-loop-rest
+invariant-loop-rest l = items_of l.fn.tokens ≡ option_map (λ more. l.items ++ more) (all_of item_of (between_rest BetweenItems (option_copied l.rest)))
+
+abbrev pub decreases-loop-rest : goal.decreases-loop-rest
+decreases-loop-rest l = rest_len (option_copied l.rest)

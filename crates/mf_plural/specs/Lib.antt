@@ -1,0 +1,12 @@
+pub mod Tokens
+pub mod Lexemes
+pub mod TokenReading
+pub mod Operands
+pub mod Grammar
+pub mod Cuts
+pub mod Keywords
+pub mod Reading
+pub mod Choice
+pub mod Syntax
+pub mod Rules
+pub mod Laws

@@ -1,0 +1,55 @@
+-- What is pushed stands at the end of the characters.
+use Rattle.std.proofs.Common.{◌≡◌, ℕ, List, [], ◌∷◌, ◌++◌, ap, sym, ◌∙◌, chars, Result, Ok, Err, cond, append_assoc, subst, codes}
+use Rattle.std.proofs.lemmas.List.{append-nil}
+use Rattle.std.proofs.lemmas.Str.{chars-nil, chars_past_char, chars-append, IsUtf8-encode}
+use Rattle.std.specs.Char.{IsScalar}
+use Rattle.std.specs.Prelude.{encode_utf8, OnOk}
+use Rattle.std.specs.Result.{is_ok}
+use Rattle.std.specs.Str.{IsUtf8}
+
+-- what a push of a text leaves, where it succeeds
+pub pushed_text : {E : Type 0} (r : Result (Unit {0}) E) (seen old new text : List ℕ) → chars old ≡ seen → IsUtf8 old → new ≡ cond (is_ok r) (old ++ text) old →
+    OnOk r (chars new ≡ seen ++ chars text)
+pushed_text (Ok u) seen old new text sees is_text is = ap chars is ∙ chars-append old text is_text ∙ ap (λ cs. cs ++ chars text) sees
+pushed_text (Err e) seen old new text sees is_text is = tt
+
+one_character : (c : ℕ) → IsScalar c → chars (encode_utf8 c) ≡ c ∷ []
+one_character c scalar =
+    chars_past_char (encode_utf8 c) [] c (IsUtf8-encode c scalar) (sym (append-nil (encode_utf8 c))) ∙ ap (λ cs. c ∷ cs) chars-nil
+
+-- and of a character
+pub pushed_character : {E : Type 0} (r : Result (Unit {0}) E) (seen old new : List ℕ) (c : ℕ) → chars old ≡ seen → IsUtf8 old → IsScalar c →
+    new ≡ cond (is_ok r) (old ++ encode_utf8 c) old → OnOk r (chars new ≡ seen ++ c ∷ [])
+pushed_character (Ok u) seen old new c sees is_text scalar is =
+    ap chars is ∙ chars-append old (encode_utf8 c) is_text ∙ ap (λ cs. chars old ++ cs) (one_character c scalar) ∙ ap (λ cs. cs ++ c ∷ []) sees
+pushed_character (Err e) seen old new c sees is_text scalar is = tt
+
+-- a text between two bars
+pub between_bars : {E : Type 0} (r : Result (Unit {0}) E) (old inner new text : List ℕ) → inner ≡ (old ++ 0x7C ∷ []) ++ text → OnOk r (new ≡ inner ++ 0x7C ∷ []) →
+    OnOk r (new ≡ old ++ 0x7C ∷ (text ++ 0x7C ∷ []))
+between_bars (Ok u) old inner new text is pushed =
+    pushed ∙ ap (λ cs. cs ++ 0x7C ∷ []) (is ∙ append_assoc old (0x7C ∷ []) text) ∙ append_assoc old (0x7C ∷ text) (0x7C ∷ [])
+between_bars (Err e) old inner new text is pushed = tt
+
+-- parts that are written one after the other
+pub two_parts : {E : Type 0} (r : Result (Unit {0}) E) (old one new a b : List ℕ) → one ≡ old ++ a → OnOk r (new ≡ one ++ b) → OnOk r (new ≡ old ++ (a ++ b))
+two_parts (Ok u) old one new a b first last = last ∙ ap (λ cs. cs ++ b) first ∙ append_assoc old a b
+two_parts (Err e) old one new a b first last = tt
+
+pub three_parts : {E : Type 0} (r : Result (Unit {0}) E) (old one two new a b c : List ℕ) → one ≡ old ++ a → two ≡ one ++ b → OnOk r (new ≡ two ++ c) →
+    OnOk r (new ≡ old ++ (a ++ (b ++ c)))
+three_parts r old one two new a b c first second last =
+    two_parts r old one new a (b ++ c) first (two_parts r one two new b c second last)
+
+pub four_parts : {E : Type 0} (r : Result (Unit {0}) E) (old one two three new a b c d : List ℕ) → one ≡ old ++ a → two ≡ one ++ b → three ≡ two ++ c → OnOk r (new ≡ three ++ d) →
+    OnOk r (new ≡ old ++ (a ++ (b ++ (c ++ d))))
+four_parts r old one two three new a b c d first second third last =
+    two_parts r old one new a (b ++ (c ++ d)) first (three_parts r one two three new b c d second third last)
+
+-- `.local `, a variable, ` = ` and an expression
+pub local_parts : {E : Type 0} (r : Result (Unit {0}) E) (old one two three new variable expression : List ℕ) →
+    one ≡ old ++ codes ".local " → two ≡ one ++ variable → three ≡ two ++ codes " = " → OnOk r (new ≡ three ++ expression) →
+    OnOk r (new ≡ old ++ (codes ".local " ++ variable ++ codes " = " ++ expression))
+local_parts r old one two three new variable expression first second third last =
+    subst (λ (text : List ℕ). OnOk r (new ≡ old ++ text)) (ap (λ (text : List ℕ). codes ".local " ++ text) (sym (append_assoc variable (codes " = ") expression)))
+    (four_parts r old one two three new (codes ".local ") variable (codes " = ") expression first second third last)

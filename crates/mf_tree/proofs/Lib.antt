@@ -1,0 +1,5 @@
+pub mod Annotated
+pub mod Characters
+pub mod Nodes
+pub mod Marks
+pub mod Tested

@@ -1,0 +1,9 @@
+pub mod Canonical
+pub mod Compiled
+pub mod Equality
+pub mod Faults
+pub mod Kinds
+pub mod Laws
+pub mod Names
+pub mod Nodes
+pub mod Spells

@@ -1,0 +1,186 @@
+use super::*;
+use mf_text::{Argued, Text};
+use std::alloc::Global;
+use std::test::Fail;
+
+/// Reads a format line with these `args`.
+fn read_with(alloc: Global, args: &str) -> Result<Request, WireError> {
+    let line = format!(in alloc;
+        "{{\"op\":\"format\",\"locale\":\"en\",\"id\":\"a\",\"args\":{args}}}"
+    )?;
+    read_request(alloc, line.as_bytes())
+}
+
+// Escaped and plain, composed and decomposed, past ASCII, empty, and a key that is there twice.
+#[test]
+fn names_of_arguments_are_in_normal_form(rt: HostRuntime) -> Result<(), Fail> {
+    for (args, name, value, count) in [
+        ("{}", "a", None, 0),
+        ("{\"e\\u0301\":\"x\"}", "\u{e9}", Some("x"), 1),
+        ("{\"e\\u0301\":\"x\"}", "e\u{301}", None, 1),
+        ("{\"e\u{301}\":\"x\"}", "\u{e9}", Some("x"), 1),
+        ("{\"\u{e9}\":\"x\"}", "\u{e9}", Some("x"), 1),
+        ("{\"\\u212b\":\"x\",\"e\":\"y\"}", "\u{c5}", Some("x"), 2),
+        ("{\"\u{540d}\":\"x\"}", "\u{540d}", Some("x"), 1),
+        ("{\"\":\"x\"}", "", Some("x"), 1),
+        ("{\"b\":\"e\\u0301\"}", "b", Some("e\u{301}"), 1),
+        ("{\"a\":\"x\",\"a\":\"y\"}", "a", Some("y"), 1),
+    ] {
+        let Request::Format { arguments, .. } = read_with(rt.alloc(), args)? else {
+            return Err(Fail::new("a format was read otherwise"));
+        };
+        let found = arguments.find(&Text::of(rt.alloc(), name)?);
+        let text = found.map(|argued| match argued {
+            Argued::Text(text) => text.as_str(),
+            Argued::Signed(_) | Argued::Unsigned(_) => "a number",
+        });
+        assert_eq!(rt; text, value, "{args}");
+        assert_eq!(rt; arguments.len(), count, "{args}");
+    }
+    Ok(())
+}
+
+/// Reads the value of the argument `n` of a format line.
+fn read_number(alloc: Global, value: &str) -> Result<Option<Argued>, Fail> {
+    let args = format!(in alloc; "{{\"n\":{value}}}")?;
+    match read_with(alloc, args.as_str()) {
+        Ok(Request::Format { arguments, .. }) => {
+            let name = Text::of(alloc, "n")?;
+            match arguments.find(&name) {
+                Some(argued) => Ok(Some(argued.clone()?)),
+                None => Ok(None),
+            }
+        }
+        _ => Ok(None),
+    }
+}
+
+// Whole numbers at the ends of 64 bits; what is written with a fraction or an exponent, minus nought, and what is wider,
+// is no whole number.
+#[test]
+fn an_argument_may_be_a_whole_number(rt: HostRuntime) -> Result<(), Fail> {
+    for (value, argued) in [
+        ("0", Some(Argued::Signed(0))),
+        ("-9223372036854775808", Some(Argued::Signed(i64::MIN))),
+        ("9223372036854775807", Some(Argued::Signed(i64::MAX))),
+        (
+            "9223372036854775808",
+            Some(Argued::Unsigned(9_223_372_036_854_775_808)),
+        ),
+        ("18446744073709551615", Some(Argued::Unsigned(u64::MAX))),
+        ("18446744073709551616", None),
+        ("-9223372036854775809", None),
+        ("-0", None),
+        ("1.0", None),
+        ("1e2", None),
+        ("true", None),
+    ] {
+        assert_eq!(rt; read_number(rt.alloc(), value)?, argued, "{value}");
+    }
+    Ok(())
+}
+
+/// The field that a line is refused for, or another word where it isn't.
+fn refused(alloc: Global, line: &str) -> &'static str {
+    match read_request(alloc, line.as_bytes()) {
+        Err(WireError::BadRequest { field }) => field.as_str(),
+        Err(WireError::NotBuilt) => "not built",
+        Err(_) => "another error",
+        Ok(_) => "read",
+    }
+}
+
+// Each field of each line that is built: missing, of another kind, and at both sides of its range.
+#[test]
+fn the_first_wrong_field_is_named(rt: HostRuntime) -> Result<(), Fail> {
+    for (line, field) in [
+        ("[]", "op"),
+        ("1", "op"),
+        ("{}", "op"),
+        ("{\"op\":1}", "op"),
+        ("{\"op\":\"Lint\",\"source\":\"\"}", "op"),
+        ("{\"op\":\"handler\"}", "not built"),
+        ("{\"op\":\"stat\"}", "not built"),
+        ("{\"op\":\"lint\"}", "source"),
+        ("{\"op\":\"lint\",\"source\":null}", "source"),
+        ("{\"op\":\"lint\",\"source\":[\"a\"]}", "source"),
+        ("{\"op\":\"lint\",\"source\":\"\"}", "read"),
+        ("{\"op\":\"publish\"}", "locale"),
+        ("{\"op\":\"publish\",\"locale\":1,\"messages\":1}", "locale"),
+        (
+            "{\"op\":\"publish\",\"locale\":\"e\",\"messages\":{}}",
+            "locale",
+        ),
+        ("{\"op\":\"publish\",\"locale\":\"en\"}", "messages"),
+        (
+            "{\"op\":\"publish\",\"locale\":\"en\",\"messages\":[\"a\"]}",
+            "messages",
+        ),
+        (
+            "{\"op\":\"publish\",\"locale\":\"en\",\"messages\":{}}",
+            "messages",
+        ),
+        (
+            "{\"op\":\"publish\",\"locale\":\"en\",\"messages\":{\"\":\"a\"}}",
+            "messages",
+        ),
+        (
+            "{\"op\":\"publish\",\"locale\":\"en\",\"messages\":{\"a\":null}}",
+            "messages",
+        ),
+        (
+            "{\"op\":\"publish\",\"locale\":\"en\",\"messages\":{\"a\":\"\"}}",
+            "read",
+        ),
+        ("{\"op\":\"format\"}", "locale"),
+        (
+            "{\"op\":\"format\",\"locale\":\"en_gb\",\"id\":\"a\"}",
+            "locale",
+        ),
+        ("{\"op\":\"format\",\"locale\":\"en\"}", "id"),
+        (
+            "{\"op\":\"format\",\"locale\":\"en\",\"id\":1,\"args\":1}",
+            "id",
+        ),
+        ("{\"op\":\"format\",\"locale\":\"en\",\"id\":\"\"}", "read"),
+        (
+            "{\"op\":\"format\",\"locale\":\"en\",\"id\":\"a\",\"args\":null}",
+            "args",
+        ),
+        (
+            "{\"op\":\"format\",\"locale\":\"en\",\"id\":\"a\",\"args\":[\"x\"],\"since\":-1}",
+            "args",
+        ),
+        (
+            "{\"op\":\"format\",\"locale\":\"en\",\"id\":\"a\",\"args\":{\"b\":\"x\",\"c\":null}}",
+            "args",
+        ),
+        (
+            "{\"op\":\"format\",\"locale\":\"en\",\"id\":\"a\",\"args\":{\"e\u0301\":\"x\",\"\u00e9\":1}}",
+            "args",
+        ),
+        (
+            "{\"op\":\"format\",\"locale\":\"en\",\"id\":\"a\",\"since\":null}",
+            "since",
+        ),
+        (
+            "{\"op\":\"format\",\"locale\":\"en\",\"id\":\"a\",\"since\":-1}",
+            "since",
+        ),
+        (
+            "{\"op\":\"format\",\"locale\":\"en\",\"id\":\"a\",\"since\":1.0}",
+            "since",
+        ),
+        (
+            "{\"op\":\"format\",\"locale\":\"en\",\"id\":\"a\",\"since\":18446744073709551616}",
+            "since",
+        ),
+        (
+            "{\"op\":\"format\",\"locale\":\"en\",\"id\":\"a\",\"since\":18446744073709551615}",
+            "read",
+        ),
+    ] {
+        assert_eq!(rt; refused(rt.alloc(), line), field, "{line}");
+    }
+    Ok(())
+}
