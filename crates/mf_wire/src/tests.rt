@@ -156,7 +156,7 @@ fn the_first_wrong_field_is_named(rt: HostRuntime) -> Result<(), Fail> {
             "args",
         ),
         (
-            "{\"op\":\"format\",\"locale\":\"en\",\"id\":\"a\",\"args\":{\"e\u0301\":\"x\",\"\u00e9\":1}}",
+            "{\"op\":\"format\",\"locale\":\"en\",\"id\":\"a\",\"args\":{\"e\u{301}\":\"x\",\"\u{e9}\":1}}",
             "args",
         ),
         (
