@@ -1,20 +1,31 @@
 -- The defined reply to a line, and the desk after it, are functions of the desk and the line.
-use Rattle.std.proofs.Common.{◌≡◌, ◌∙◌, inl, inr, ℕ, Bool, true, false, List, [], ◌∷◌, Result, Ok, Err, refl, ap, sym, subst}
+use Rattle.std.proofs.Common.{◌≡◌, ◌∙◌, inl, inr, ℕ, Bool, true, false, List, [], ◌∷◌, Option, Some, None, Result, Ok, Err, refl, ap, sym, subst}
 use Rattle.std.specs.Result.{MatchResult}
+use Rattle.mf_edition.specs.Sizes.{refusal_of}
+use Rattle.mf_edition.specs.declared.change.Change.{Change}
+use Rattle.mf_edition.specs.declared.error.PublishError.{PublishError}
+use Rattle.mf_edition.specs.declared.error.PublishError.TheVariants.{EditionsFull, StoreFull, OutOfMemory}
 use Rattle.mf_wire.specs.Replies.{memory_line}
 use Rattle.mf_wire.specs.Requests.{request_of}
 use Rattle.mf_wire.specs.declared.reply.Reply.{Reply}
 use Rattle.mf_wire.specs.declared.request.Request.{Request}
 use Rattle.mf_wire.specs.declared.request.Request.TheVariants.{Publish, Format, Lint}
 use Rattle.mf2d.specs.Laws.{HasNoMemoryLine}
-use Rattle.mf2d.specs.Served.{Desk, Replies, RequestAnswered, LineAnswered, Answered, Served}
+use Rattle.mf2d.specs.Served.{Desk, Publishes, Replies, RequestAnswered, LineAnswered, Answered, Served}
 
 same_pair : {A B : Type 0} (a b c : A) (x y z : B) → (a ≡ b) × (x ≡ y) → (c ≡ b) × (z ≡ y) → (a ≡ c) × (x ≡ z)
 same_pair a b c x y z first second = (first.0 ∙ sym second.0, first.1 ∙ sym second.1)
 
+published_once : (refusal : Option PublishError) (change : Change) (desk : Desk) (reply other : List ℕ) (after kept : Desk)
+    → Publishes refusal change desk reply after → Publishes refusal change desk other kept → (reply ≡ other) × (after ≡ kept)
+published_once None change desk reply other after kept one two = same_pair _ _ _ _ _ _ one two
+published_once (Some (EditionsFull entries)) change desk reply other after kept one two = same_pair _ _ _ _ _ _ one two
+published_once (Some (StoreFull used size)) change desk reply other after kept one two = same_pair _ _ _ _ _ _ one two
+published_once (Some OutOfMemory) change desk reply other after kept one two = absurd one
+
 request_once : (request : Request) (desk : Desk) (reply other : List ℕ) (after kept : Desk)
     → RequestAnswered request desk reply after → RequestAnswered request desk other kept → (reply ≡ other) × (after ≡ kept)
-request_once (Publish change) desk reply other after kept one two = same_pair _ _ _ _ _ _ one two
+request_once (Publish change) desk reply other after kept one two = published_once (refusal_of desk change) change desk reply other after kept one two
 request_once (Format tag id arguments since) desk reply other after kept one two = same_pair _ _ _ _ _ _ one two
 request_once (Lint source) desk reply other after kept one two = same_pair _ _ _ _ _ _ one two
 

@@ -66,8 +66,8 @@ impl Desk {
         }
     }
 
-    /// Publishes a change, and gives the reply line. The line is made first, so that
-    /// nothing has changed where there is no memory.
+    /// Publishes a change, and gives the reply line, or gives that of why it is refused. The line of an accepted one is
+    /// made first, so that nothing has changed where there is no memory.
     fn publish(&mut self, alloc: Global, change: Change) -> Result<Text, AllocError>
         ensures ok { IfOk result (λ reply. RequestAnswered (Request.Publish change) self.old (encode_utf8_all reply) self.new) }
         ensures err { OnErr result (self.new ≡ self.old) }
@@ -80,7 +80,7 @@ impl Desk {
             alloc,
             &Reply::Accepted {
                 edition: number,
-                op: Op::Publish,
+                op: Op::of(&change),
             },
         )?;
         let entry = Entry {
@@ -88,10 +88,14 @@ impl Desk {
             nth: number,
             change,
         };
-        if let Err(PublishError::OutOfMemory) = self.log.publish(&mut self.newest, entry) {
-            return Err(AllocError);
+        match self.log.publish(&mut self.newest, entry) {
+            Ok(()) => Ok(reply),
+            Err(PublishError::EditionsFull { entries }) =>
+                reply_line(alloc, &Reply::EditionsFull { entries }),
+            Err(PublishError::StoreFull { used, size }) =>
+                reply_line(alloc, &Reply::StoreFull { used, size }),
+            Err(PublishError::OutOfMemory) => Err(AllocError),
         }
-        Ok(reply)
     }
 
     /// The reply line to a request for a sentence.

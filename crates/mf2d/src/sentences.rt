@@ -35,6 +35,52 @@ fn plain(alloc: Global, edition: u64, tag: &str, text: &str) -> Result<String, A
     )
 }
 
+/// The line of a publication of a locale record.
+fn locale(alloc: Global, tag: &str, version: u64, plural: &str) -> Result<String, AllocError> {
+    format!(in alloc;
+        "{{\"op\":\"locale\",\"tag\":\"{tag}\",\"record\":{{\"version\":{version},\"dir\":\"ltr\",\"decimal\":\".\",\"group\":\",\",\"minus\":\"-\",\"plus\":\"+\",\"primary\":3,\"secondary\":3,\"minGroup\":1,\"plural\":\"{plural}\",\"ordinal\":\"\"}}}}"
+    )
+}
+
+// A record that is refused makes no edition.
+#[test]
+fn a_locale_record_is_published(rt: HostRuntime) -> Result<(), Fail> {
+    let alloc = rt.alloc();
+    let good = locale(alloc, "en", 1, "one: i = 1 and v = 0")?;
+    let bad = locale(alloc, "en", 1, "one: i = 1; few: n in 2..4")?;
+    let newer = locale(alloc, "en", 2, "one")?;
+    let message = publication(alloc, "en", "a", "b")?;
+    let lines = [
+        good.as_str(),
+        bad.as_str(),
+        newer.as_str(),
+        good.as_str(),
+        "{\"op\":\"locale\",\"tag\":\"en\"}",
+        message.as_str(),
+    ];
+    assert_eq!(rt;
+        replies(alloc, &lines)?.as_str(),
+        "{\"edition\":1,\"ok\":\"locale\"}\n{\"error\":\"bad-locale\",\"field\":\"plural\",\"rule\":2}\n{\"error\":\"bad-locale\",\"field\":\"version\"}\n{\"edition\":2,\"ok\":\"locale\"}\n{\"error\":\"bad-request\",\"field\":\"record\"}\n{\"edition\":3,\"ok\":\"publish\"}\n"
+    );
+    Ok(())
+}
+
+// One publication more than the log has room for is refused, and so is each one after it.
+#[test]
+fn a_log_has_its_most_publications(rt: HostRuntime) -> Result<(), Fail> {
+    let alloc = rt.alloc();
+    let message = publication(alloc, "en", "a", "b")?;
+    let mut lines = Vec::new(alloc);
+    for _ in 0..65_538 {
+        lines.push(message.as_str())?;
+    }
+    let told = replies(alloc, &lines)?;
+    assert!(rt; told.as_str().ends_with(
+        "\n{\"edition\":65536,\"ok\":\"publish\"}\n{\"entries\":65536,\"error\":\"editions-full\"}\n{\"entries\":65536,\"error\":\"editions-full\"}\n"
+    ));
+    Ok(())
+}
+
 // Any text is a source; what isn't flat can't be formatted yet.
 #[test]
 fn a_source_that_is_not_flat_is_published(rt: HostRuntime) -> Result<(), Fail> {

@@ -7,7 +7,7 @@ use Rattle.mf_parts.specs.declared.part.Part.{Part}
 use Rattle.mf_parts.specs.declared.part.Part.TheVariants.{Text, Isolate, String}
 use Rattle.mf_wire.specs.Replies.{fault_data, part_data, reply_data}
 use Rattle.mf_wire.specs.declared.reply.Reply.{Reply}
-use Rattle.mf_wire.specs.declared.reply.Reply.TheVariants.{Accepted, Formatted, LintValid, LintInvalid, BadJson, BadRequest, NotBuilt, NoMessage, NotYet}
+use Rattle.mf_wire.specs.declared.reply.Reply.TheVariants.{Accepted, Formatted, LintValid, LintInvalid, BadJson, BadRequest, BadLocale, EditionsFull, StoreFull, NotBuilt, NoMessage, NotYet}
 
 no_float_part : (part : Part) → has_float (part_data part) ≡ false
 no_float_part (Text text) = refl
@@ -30,6 +30,10 @@ no_float (LintValid source) = refl
 no_float (LintInvalid faults) = ap (λ b. b || false) (no_float_faults faults)
 no_float BadJson = refl
 no_float (BadRequest field) = refl
+no_float (BadLocale field None) = refl
+no_float (BadLocale field (Some rule)) = refl
+no_float (EditionsFull entries) = refl
+no_float (StoreFull used size) = refl
 no_float NotBuilt = refl
 no_float (NoMessage edition) = refl
 no_float (NotYet edition since) = refl

@@ -23,6 +23,14 @@ tag_from text = if is_tag text then Some (lower_case text) else None
 abbrev pub tag_field : List ℕ → Data → Option (List ℕ)
 tag_field name request = option_and_then (λ bytes. tag_from (chars bytes)) (string_field name request)
 
+-- the object that a value is
+abbrev pub object_from : Data → Option Data
+object_from value = option_map (λ members. value) (as_object value)
+
+-- a field that is an object
+abbrev pub object_field : List ℕ → Data → Option Data
+object_field name request = option_and_then object_from (get name request)
+
 -- an id has from 1 to 256 bytes
 abbrev pub is_id : List ℕ → Bool
 is_id bytes = nat_le 1 (length bytes) && nat_le (length bytes) 256

@@ -3,4 +3,5 @@ pub mod Fields
 pub mod Lines
 pub mod Reading
 pub mod Replies
+pub mod RecordSizes
 pub mod Requests

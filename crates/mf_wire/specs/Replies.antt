@@ -8,11 +8,15 @@ use Rattle.mf_tree.specs.declared.fault.Fault.{Fault}
 use Rattle.mf_parts.specs.Joined.{text_of}
 use Rattle.mf_parts.specs.declared.part.Part.{Part}
 use Rattle.mf_parts.specs.declared.part.Part.TheVariants.{Text, Isolate, String}
+use Rattle.mf_edition.specs.declared.change.Change.{Change}
+use Rattle.mf_edition.specs.declared.change.Change.TheVariants as change
+use Rattle.mf_locale.specs.FieldNames.{name_of}
+use Rattle.mf_locale.specs.declared.field.RecordField.{RecordField}
 use Rattle.mf_wire.specs.FieldNames.{field_name}
 use Rattle.mf_wire.specs.declared.reply.Op.{Op}
-use Rattle.mf_wire.specs.declared.reply.Op.TheVariants.{Publish}
+use Rattle.mf_wire.specs.declared.reply.Op.TheVariants.{Publish, Locale}
 use Rattle.mf_wire.specs.declared.reply.Reply.{Reply}
-use Rattle.mf_wire.specs.declared.reply.Reply.TheVariants.{Accepted, Formatted, LintValid, LintInvalid, BadJson, BadRequest, NotBuilt, NoMessage, NotYet}
+use Rattle.mf_wire.specs.declared.reply.Reply.TheVariants.{Accepted, Formatted, LintValid, LintInvalid, BadJson, BadRequest, BadLocale, EditionsFull, StoreFull, NotBuilt, NoMessage, NotYet}
 
 -- a text, by its characters
 abbrev pub text_data : List ℕ → Data
@@ -39,6 +43,12 @@ parts_data parts = array (items_of (map part_data parts))
 
 abbrev pub op_name : Op → List ℕ
 op_name Publish = codes "publish"
+op_name Locale = codes "locale"
+
+-- what a change is a publication of
+abbrev pub op_of : Change → Op
+op_of (change.Catalogue tag messages) = Publish
+op_of (change.Locale tag place size) = Locale
 
 -- the object of a formatted message, whose text is its parts joined
 abbrev pub formatted_data : ℕ → List ℕ → List Part → Data
@@ -66,6 +76,15 @@ abbrev pub valid_data : List ℕ → Data
 valid_data source =
     object (member (codes "errors") (array no_items) (member (codes "ok") (string (codes "lint")) (member (codes "source") (text_data source) no_members)))
 
+-- the object of the refusal of a locale record, and of one for a bad rule
+abbrev pub bad_locale_data : RecordField → Option ℕ → Data
+bad_locale_data field None =
+    object (member (codes "error") (string (codes "bad-locale")) (member (codes "field") (string (name_of field)) no_members))
+bad_locale_data field (Some rule) = object
+    (member (codes "error") (string (codes "bad-locale"))
+    (member (codes "field") (string (name_of field))
+    (member (codes "rule") (number (unsigned rule)) no_members)))
+
 -- the JSON value of a reply
 abbrev pub reply_data : Reply → Data
 reply_data (Accepted edition op) = object (member (codes "edition") (number (unsigned edition)) (member (codes "ok") (string (op_name op)) no_members))
@@ -75,6 +94,13 @@ reply_data (LintInvalid faults) = invalid_data faults
 reply_data BadJson = error_data (codes "bad-json")
 reply_data (BadRequest field) =
     object (member (codes "error") (string (codes "bad-request")) (member (codes "field") (string (field_name field)) no_members))
+reply_data (BadLocale field rule) = bad_locale_data field rule
+reply_data (EditionsFull entries) =
+    object (member (codes "entries") (number (unsigned entries)) (member (codes "error") (string (codes "editions-full")) no_members))
+reply_data (StoreFull used size) = object
+    (member (codes "error") (string (codes "store-full"))
+    (member (codes "size") (number (unsigned size))
+    (member (codes "used") (number (unsigned used)) no_members)))
 reply_data NotBuilt = error_data (codes "not-built")
 reply_data (NoMessage edition) =
     object (member (codes "edition") (number (unsigned edition)) (member (codes "error") (string (codes "no-message")) no_members))

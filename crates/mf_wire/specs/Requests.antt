@@ -3,15 +3,19 @@ use Rattle.std.specs.Prelude.{◌≡◌, ℕ, List, chars, codes, Option, Some, 
 use Rattle.std.specs.Str.{bytes_eq}
 use Rattle.serde_json.specs.Data.{Data}
 use Rattle.serde_json.specs.Find.{get}
-use Rattle.mf_edition.specs.declared.change.Change.TheVariants.{Catalogue}
-use Rattle.mf_wire.specs.Fields.{string_field, tag_field, catalogue_field, arguments_of, since_of}
+use Rattle.mf_edition.specs.declared.change.Change.TheVariants.{Catalogue, Locale}
+use Rattle.mf_locale.specs.RecordFields.{RecordFault, bad_field, bad_rule}
+use Rattle.mf_locale.specs.RecordReading.{record_of}
+use Rattle.mf_locale.specs.declared.record.LocaleRecord.{LocaleRecord}
+use Rattle.mf_wire.specs.Fields.{string_field, tag_field, catalogue_field, object_field, arguments_of, since_of}
+use Rattle.mf_wire.specs.RecordSizes.{record_size}
 use Rattle.mf_wire.specs.Reading.{reading}
 use Rattle.mf_wire.specs.declared.field.Field.{Field}
 use Rattle.mf_wire.specs.declared.field.Field.TheVariants as field
 use Rattle.mf_wire.specs.declared.reading.WireError.{WireError}
 use Rattle.mf_wire.specs.declared.reading.WireError.TheVariants as error
 use Rattle.mf_wire.specs.declared.reply.Reply.{Reply}
-use Rattle.mf_wire.specs.declared.reply.Reply.TheVariants.{BadJson, BadRequest, NotBuilt}
+use Rattle.mf_wire.specs.declared.reply.Reply.TheVariants.{BadJson, BadRequest, BadLocale, NotBuilt}
 use Rattle.mf_wire.specs.declared.request.Request.{Request}
 use Rattle.mf_wire.specs.declared.request.Request.TheVariants.{Publish, Format, Lint}
 
@@ -27,6 +31,23 @@ publish_request request =
     need field.Locale (tag_field (codes "locale") request)
     (λ tag. need field.Messages (catalogue_field (codes "messages") request)
     (λ messages. Ok (Publish (Catalogue tag messages))))
+
+-- the reply that refuses a record with this fault
+abbrev pub fault_reply : RecordFault → Reply
+fault_reply (bad_field field) = BadLocale field None
+fault_reply (bad_rule field number) = BadLocale field (Some number)
+
+-- a publication of a record for a tag, or the reply that refuses the record
+abbrev pub record_request : List ℕ → Data → Result LocaleRecord RecordFault → Result Request Reply
+record_request tag record (Ok place) = Ok (Publish (Locale tag place (record_size tag record)))
+record_request tag record (Err fault) = Err (fault_reply fault)
+
+-- a publication of a locale record: a tag and an object, then the record's own fields
+abbrev pub locale_request : Data → Result Request Reply
+locale_request request =
+    need field.Tag (tag_field (codes "tag") request)
+    (λ tag. need field.Record (object_field (codes "record") request)
+    (λ record. record_request tag record (record_of record)))
 
 -- a request for a sentence: a tag, an id, arguments, and the least edition that it may come from
 abbrev pub format_request : Data → Result Request Reply
@@ -47,7 +68,7 @@ request_by op request =
     if bytes_eq op (codes "publish") then publish_request request else
     (if bytes_eq op (codes "format") then format_request request else
     (if bytes_eq op (codes "lint") then lint_request request else
-    (if bytes_eq op (codes "locale") then Err NotBuilt else
+    (if bytes_eq op (codes "locale") then locale_request request else
     (if bytes_eq op (codes "handler") then Err NotBuilt else
     (if bytes_eq op (codes "stat") then Err NotBuilt else Err (BadRequest field.Op))))))
 
@@ -67,5 +88,6 @@ request_of line = request_read (reading line)
 abbrev pub IsDue : Result Request Reply → WireError → Type 0
 IsDue asked error.BadJson = asked ≡ Err BadJson
 IsDue asked (error.BadRequest field) = asked ≡ Err (BadRequest field)
+IsDue asked (error.BadLocale field rule) = asked ≡ Err (BadLocale field rule)
 IsDue asked error.NotBuilt = asked ≡ Err NotBuilt
 IsDue asked error.OutOfMemory = Unit {0}

@@ -1,4 +1,4 @@
-ghost use Rattle.std.specs.Prelude.{◌≡◌, [], IfOk, chars};
+ghost use Rattle.std.specs.Prelude.{◌≡◌, [], IfOk, chars, option_map};
 ghost use Rattle.std.specs.Option.{option_copied};
 ghost use Rattle.serde_json.specs.Find.{get};
 ghost use Rattle.serde_json.specs.View.{view, members_view};
@@ -37,6 +37,16 @@ pub(crate) fn tag_field(
         Ok(tag) => Ok(Some(tag)),
         Err(LocaleError::BadTag) => Ok(None),
         Err(LocaleError::OutOfMemory) => Err(AllocError),
+    }
+}
+
+/// A field that is an object.
+pub(crate) fn object_field<'v>(object: &'v Value, name: &str) -> Option<&'v Value>
+    ensures { option_map (λ v. view v.now) result ≡ fields.object_field name.now (view object.now) }
+{
+    match object.get(name) {
+        Some(value) if value.is_object() => Some(value),
+        _ => None,
     }
 }
 

@@ -10,6 +10,7 @@ mod lines;
 mod reading;
 mod reply;
 mod request;
+mod size;
 
 pub use field::Field;
 pub use lines::first_line;

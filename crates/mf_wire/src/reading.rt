@@ -3,6 +3,7 @@ ghost use Rattle.serde_json.specs.View.{view};
 ghost use Rattle.mf_wire.specs.Reading.{reading};
 
 use crate::field::Field;
+use mf_locale::RecordField;
 use serde_json::Value;
 use std::alloc::{AllocError, Global};
 use thiserror::Error;
@@ -17,6 +18,13 @@ pub enum WireError {
     /// This field is the first that is missing, of another kind or out of range.
     #[error("the field {} is missing or wrong", field.as_str())]
     BadRequest { field: Field },
+    /// This field of the locale record is the first that is missing, of another kind or out of range, or has this rule as
+    /// its first bad one, counted from 1.
+    #[error("the field {} of the locale record is missing or wrong", field.as_str())]
+    BadLocale {
+        field: RecordField,
+        rule: Option<u32>,
+    },
     /// The line is JSON, and asks for what isn't built yet.
     #[error("the line asks for what isn't built yet")]
     NotBuilt,

@@ -1,9 +1,10 @@
 ghost use Rattle.std.specs.Prelude.{◌≡◌, IfOk, encode_utf8_all};
 ghost use Rattle.serde_json.specs.View.{view};
-ghost use Rattle.mf_wire.specs.Replies.{error_data, fault_data, faults_data, formatted_data, invalid_data, op_name as op_text, part_data, parts_data, reply_data, reply_line as line_of, string_data};
+ghost use Rattle.mf_wire.specs.Replies.{bad_locale_data, error_data, fault_data, faults_data, formatted_data, invalid_data, op_name as op_text, op_of, part_data, parts_data, reply_data, reply_line as line_of, string_data};
 
 use crate::field::Field;
-use mf_locale::Tag;
+use mf_edition::Change;
+use mf_locale::{RecordField, Tag};
 use mf_parts::{Part, Parts, joined};
 use mf_text::Text;
 use mf_tree::{Fault, Faults};
@@ -15,6 +16,20 @@ use std::alloc::{AllocError, Global};
 pub enum Op {
     /// A catalogue of messages.
     Publish,
+    /// The locale record of a tag.
+    Locale,
+}
+
+impl Op {
+    /// What a change is a publication of.
+    pub fn of(change: &Change) -> Op
+        ensures { result ≡ op_of change.now }
+    {
+        match change {
+            Change::Catalogue { .. } => Op::Publish,
+            Change::Locale { .. } => Op::Locale,
+        }
+    }
 }
 
 /// The answer to a request.
@@ -44,6 +59,21 @@ pub enum Reply {
     /// This field is the first that is missing, of another kind or out of range.
     BadRequest {
         field: Field,
+    },
+    /// This field of the locale record is the first that is missing, of another kind or out of range, or has this rule as
+    /// its first bad one, counted from 1.
+    BadLocale {
+        field: RecordField,
+        rule: Option<u32>,
+    },
+    /// The log has so many publications, the most that it may have.
+    EditionsFull {
+        entries: u64,
+    },
+    /// The publication counts for `size` bytes, and with the `used` ones would pass the limit of the log.
+    StoreFull {
+        used: u64,
+        size: u64,
     },
     /// The line is JSON, and asks for what isn't built yet.
     NotBuilt,
@@ -88,6 +118,11 @@ fn reply_value(alloc: Global, reply: &Reply) -> Result<Value, AllocError>
         Reply::BadJson => error_value(alloc, "bad-json"),
         Reply::BadRequest { field } =>
             json!(in alloc; {"error": "bad-request", "field": field.as_str()}),
+        Reply::BadLocale { field, rule } => bad_locale_value(alloc, *field, *rule),
+        Reply::EditionsFull { entries } =>
+            json!(in alloc; {"entries": *entries, "error": "editions-full"}),
+        Reply::StoreFull { used, size } =>
+            json!(in alloc; {"error": "store-full", "size": *size, "used": *used}),
         Reply::NotBuilt => error_value(alloc, "not-built"),
         Reply::NoMessage { edition } =>
             json!(in alloc; {"edition": *edition, "error": "no-message"}),
@@ -102,6 +137,7 @@ fn op_name(op: Op) -> &'static str
 {
     match op {
         Op::Publish => "publish",
+        Op::Locale => "locale",
     }
 }
 
@@ -110,6 +146,21 @@ fn error_value(alloc: Global, name: &str) -> Result<Value, AllocError>
     ensures { IfOk result (λ v. view v ≡ error_data name.now) }
 {
     json!(in alloc; {"error": name})
+}
+
+/// The object of the refusal of a locale record.
+fn bad_locale_value(
+    alloc: Global,
+    field: RecordField,
+    rule: Option<u32>,
+) -> Result<Value, AllocError>
+    ensures { IfOk result (λ v. view v ≡ bad_locale_data field rule) }
+{
+    match rule {
+        None => json!(in alloc; {"error": "bad-locale", "field": field.as_str()}),
+        Some(rule) =>
+            json!(in alloc; {"error": "bad-locale", "field": field.as_str(), "rule": rule}),
+    }
 }
 
 /// The object of a formatted message.

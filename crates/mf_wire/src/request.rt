@@ -1,12 +1,16 @@
 ghost use Rattle.std.specs.Prelude.{◌≡◌, Ok, IfErr, IfOk};
 ghost use Rattle.serde_json.specs.View.{view};
-ghost use Rattle.mf_wire.specs.Requests.{format_request, lint_request, publish_request, request_by, request_from, request_of, IsDue};
+ghost use Rattle.mf_locale.specs.RecordReading.{record_of};
+ghost use Rattle.mf_wire.specs.Requests.{format_request, lint_request, locale_request, publish_request, record_request, request_by, request_from, request_of, IsDue};
 
 use crate::field::Field;
-use crate::fields::{arguments_field, catalogue_field, since_field, string_field, tag_field};
+use crate::fields::{
+    arguments_field, catalogue_field, object_field, since_field, string_field, tag_field,
+};
 use crate::reading::{WireError, read_value};
+use crate::size::record_size;
 use mf_edition::Change;
-use mf_locale::Tag;
+use mf_locale::{LocaleError, Tag, read_record};
 use mf_text::{Arguments, Text};
 use serde_json::Value;
 use std::alloc::Global;
@@ -34,8 +38,8 @@ pub enum Request {
 ///
 /// # Errors
 ///
-/// `BadJson`, `BadRequest` with the first field that is missing, of another kind or out of range, `NotBuilt` and
-/// `OutOfMemory`.
+/// `BadJson`, `BadRequest` with the first field that is missing, of another kind or out of range, `BadLocale` with that
+/// of a locale record, `NotBuilt` and `OutOfMemory`.
 pub fn read_request(alloc: Global, line: &[u8]) -> Result<Request, WireError>
     ensures request { IfOk result (λ request. request_of line.now ≡ Ok request) }
     ensures refused { IfErr result (IsDue (request_of line.now)) }
@@ -66,7 +70,8 @@ fn asked_by(alloc: Global, op: &str, value: &Value) -> Result<Request, WireError
         "publish" => publication(alloc, value),
         "format" => format(alloc, value),
         "lint" => lint(alloc, value),
-        "locale" | "handler" | "stat" => Err(WireError::NotBuilt),
+        "locale" => locale(alloc, value),
+        "handler" | "stat" => Err(WireError::NotBuilt),
         _ => Err(WireError::BadRequest { field: Field::Op }),
     }
 }
@@ -87,6 +92,40 @@ fn publication(alloc: Global, value: &Value) -> Result<Request, WireError>
         });
     };
     Ok(Request::Publish(Change::Catalogue { tag, messages }))
+}
+
+/// A publication of a locale record.
+fn locale(alloc: Global, value: &Value) -> Result<Request, WireError>
+    ensures request { IfOk result (λ request. locale_request (view value.now) ≡ Ok request) }
+    ensures refused { IfErr result (IsDue (locale_request (view value.now))) }
+{
+    let Some(tag) = tag_field(alloc, value, "tag")? else {
+        return Err(WireError::BadRequest { field: Field::Tag });
+    };
+    let Some(record) = object_field(value, "record") else {
+        return Err(WireError::BadRequest {
+            field: Field::Record,
+        });
+    };
+    locale_record(alloc, tag, record)
+}
+
+/// A publication of the record that an object is.
+fn locale_record(alloc: Global, tag: Tag, record: &Value) -> Result<Request, WireError>
+    ensures request { IfOk result (λ request. record_request tag (view record.now) (record_of (view record.now)) ≡ Ok request) }
+    ensures refused { IfErr result (IsDue (record_request tag (view record.now) (record_of (view record.now)))) }
+{
+    let size = record_size(&tag, record);
+    match read_record(alloc, record) {
+        Ok(place) => Ok(Request::Publish(Change::Locale { tag, place, size })),
+        Err(LocaleError::BadField { field }) => Err(WireError::BadLocale { field, rule: None }),
+        Err(LocaleError::BadRule { field, rule }) => Err(WireError::BadLocale {
+            field,
+            rule: Some(rule),
+        }),
+        Err(LocaleError::BadTag) => unreachable!(),
+        Err(LocaleError::OutOfMemory) => Err(WireError::OutOfMemory),
+    }
 }
 
 /// A request for a sentence.

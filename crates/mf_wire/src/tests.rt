@@ -1,6 +1,8 @@
 use super::*;
+use mf_edition::Change;
+use mf_locale::RecordField;
 use mf_text::{Argued, Text};
-use std::alloc::Global;
+use std::alloc::{AllocError, Global};
 use std::test::Fail;
 
 /// Reads a format line with these `args`.
@@ -84,6 +86,8 @@ fn an_argument_may_be_a_whole_number(rt: HostRuntime) -> Result<(), Fail> {
 fn refused(alloc: Global, line: &str) -> &'static str {
     match read_request(alloc, line.as_bytes()) {
         Err(WireError::BadRequest { field }) => field.as_str(),
+        Err(WireError::BadLocale { field, rule: None }) => field.as_str(),
+        Err(WireError::BadLocale { .. }) => "a rule",
         Err(WireError::NotBuilt) => "not built",
         Err(_) => "another error",
         Ok(_) => "read",
@@ -101,6 +105,27 @@ fn the_first_wrong_field_is_named(rt: HostRuntime) -> Result<(), Fail> {
         ("{\"op\":\"Lint\",\"source\":\"\"}", "op"),
         ("{\"op\":\"handler\"}", "not built"),
         ("{\"op\":\"stat\"}", "not built"),
+        ("{\"op\":\"locale\"}", "tag"),
+        ("{\"op\":\"locale\",\"tag\":1,\"record\":1}", "tag"),
+        ("{\"op\":\"locale\",\"tag\":\"e\",\"record\":{}}", "tag"),
+        ("{\"op\":\"locale\",\"tag\":\"en\"}", "record"),
+        ("{\"op\":\"locale\",\"tag\":\"en\",\"record\":null}", "record"),
+        (
+            "{\"op\":\"locale\",\"tag\":\"en\",\"record\":[1]}",
+            "record",
+        ),
+        (
+            "{\"op\":\"locale\",\"tag\":\"en\",\"record\":{}}",
+            "version",
+        ),
+        (
+            "{\"op\":\"locale\",\"tag\":\"en\",\"record\":{\"version\":2}}",
+            "version",
+        ),
+        (
+            "{\"op\":\"locale\",\"tag\":\"en\",\"record\":{\"version\":1}}",
+            "dir",
+        ),
         ("{\"op\":\"lint\"}", "source"),
         ("{\"op\":\"lint\",\"source\":null}", "source"),
         ("{\"op\":\"lint\",\"source\":[\"a\"]}", "source"),
@@ -181,6 +206,53 @@ fn the_first_wrong_field_is_named(rt: HostRuntime) -> Result<(), Fail> {
         ),
     ] {
         assert_eq!(rt; refused(rt.alloc(), line), field, "{line}");
+    }
+    Ok(())
+}
+
+/// A publication of a record with these symbols and rules.
+fn record(alloc: Global, group: &str, plural: &str, ordinal: &str) -> Result<String, AllocError> {
+    format!(in alloc;
+        "{{\"op\":\"locale\",\"tag\":\"en\",\"record\":{{\"version\":1,\"dir\":\"ltr\",\"decimal\":\".\",\"group\":\"{group}\",\"minus\":\"-\",\"plus\":\"+\",\"primary\":3,\"secondary\":3,\"minGroup\":1,\"plural\":\"{plural}\",\"ordinal\":\"{ordinal}\"}}}}"
+    )
+}
+
+// What a record counts for: 64 bytes, those of the tag, and those of its texts as they are given.
+#[test]
+fn a_record_has_the_size_of_its_texts(rt: HostRuntime) -> Result<(), Fail> {
+    let alloc = rt.alloc();
+    for (group, plural, ordinal, expected) in [
+        ("", "", "", 69),
+        (",", "", "", 70),
+        ("\u{2009}", "", "", 72),
+        (",", "one: i = 1 and v = 0", "", 90),
+        (",", "", "one:  n = 1 ;", 83),
+    ] {
+        let line = record(alloc, group, plural, ordinal)?;
+        let Request::Publish(Change::Locale { size, .. }) = read_request(alloc, line.as_bytes())?
+        else {
+            return Err(Fail::new("a record was read otherwise"));
+        };
+        assert_eq!(rt; size, expected, "{line}");
+    }
+    Ok(())
+}
+
+// The number of the first bad rule, of the field that is looked at first.
+#[test]
+fn a_bad_rule_has_its_number(rt: HostRuntime) -> Result<(), Fail> {
+    let alloc = rt.alloc();
+    for (plural, ordinal, field, number) in [
+        ("one: i = 1; few: n in 2..4", "", RecordField::Plural, 2),
+        ("one", "two", RecordField::Plural, 1),
+        ("one: i = 1", "one: n = 1; two: n = 2; few", RecordField::Ordinal, 3),
+    ] {
+        let line = record(alloc, ",", plural, ordinal)?;
+        let refusal = WireError::BadLocale {
+            field,
+            rule: Some(number),
+        };
+        assert_eq!(rt; read_request(alloc, line.as_bytes()).err(), Some(refusal), "{line}");
     }
     Ok(())
 }

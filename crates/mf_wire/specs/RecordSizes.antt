@@ -1,0 +1,16 @@
+-- The bytes that the publication of a locale record counts for.
+use Rattle.std.specs.Prelude.{ℕ, ◌+◌, List, length, codes, option_map}
+use Rattle.std.specs.Option.{unwrap_or}
+use Rattle.serde_json.specs.Data.{Data}
+use Rattle.mf_edition.specs.Sizes.{byte_count, shown}
+use Rattle.mf_wire.specs.Fields.{string_field}
+
+-- the bytes of a record's text as it is given
+abbrev pub text_size : List ℕ → Data → ℕ
+text_size name record = unwrap_or (option_map length (string_field name record)) 0
+
+-- the size of the publication of a record for a tag: 64 bytes, those of the tag, and those of six of the record's texts
+abbrev pub record_size : List ℕ → Data → ℕ
+record_size tag record = shown
+    (64 + byte_count tag + text_size (codes "decimal") record + text_size (codes "group") record + text_size (codes "minus") record
+    + text_size (codes "plus") record + text_size (codes "plural") record + text_size (codes "ordinal") record)
