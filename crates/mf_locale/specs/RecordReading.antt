@@ -2,7 +2,6 @@
 use Rattle.std.specs.Prelude.{◌≡◌, ◌&&◌, ℕ, List, true, Result, Ok, Err}
 use Rattle.std.proofs.Common.{ap, ◌∙◌}
 use Rattle.serde_json.specs.Data.{Data}
-use Rattle.mf_numfmt.specs.declared.layout.Layout.{Layout}
 use Rattle.mf_text.specs.declared.direction.Direction.{Direction}
 use Rattle.mf_plural.specs.declared.rule.Rule.{Rule}
 use Rattle.mf_locale.specs.RecordFields.{RecordFault, bad_field, bad_rule, version_field, direction_field, symbol_field, size_field, rules_field}
