@@ -5,6 +5,7 @@ ghost use Rattle.std.specs.Option.{option_copied};
 ghost use Rattle.serde_json.specs.View.{view};
 ghost use Rattle.mf_locale.specs.RecordFields as fields;
 ghost use Rattle.mf_locale.specs.RecordReading.{IsDue};
+ghost use Rattle.mf_locale.specs.Sizes.{is_size as size_test};
 
 use crate::error::LocaleError;
 use crate::field::RecordField;
@@ -19,6 +20,9 @@ const VERSION: u64 = 1;
 
 /// The most bytes that a symbol of numbers may have.
 const LONGEST_SYMBOL: usize = 16;
+
+/// The most digits that a group may have.
+const LARGEST_SIZE: u64 = 9;
 
 /// Looks whether the version is 1.
 pub fn read_version(value: &Value) -> Result<(), LocaleError>
@@ -136,11 +140,18 @@ fn direction_from(text: &str) -> Option<Direction>
 fn size_from(number: u64) -> Option<GroupSize>
     ensures { result ≡ fields.size_from number }
 {
-    if number >= 1 && number <= 9 {
+    if is_size(number) {
         Some(GroupSize {
             digits: number as u32,
         })
     } else {
         None
     }
+}
+
+// Whether a number is a size of groups.
+fn is_size(number: u64) -> bool
+    ensures { result ≡ size_test number }
+{
+    number >= 1 && number <= LARGEST_SIZE
 }
