@@ -2,3 +2,7 @@ pub mod Tag
 pub mod Chain
 pub mod Sizes
 pub mod Records
+pub mod Refusals
+pub mod FieldNames
+pub mod RecordFields
+pub mod RecordReading

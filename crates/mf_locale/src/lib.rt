@@ -1,17 +1,24 @@
-//! Language tags and the chains of tags in which messages and locale records are looked up.
+//! Language tags, the chains of tags in which messages and locale records are looked up, and locale records, read from
+//! JSON.
 #![tactic(auto)]
 
 mod cloning;
 mod default;
 mod error;
+mod field;
+mod fields;
 mod lookup;
+mod reading;
 mod record;
 mod shape;
+mod size;
 mod tag;
 
 pub use default::root;
 pub use error::LocaleError;
+pub use field::RecordField;
 pub use lookup::{Tags, chain};
+pub use reading::read_record;
 pub use record::LocaleRecord;
 pub use tag::{Tag, read_tag};
 

@@ -1,6 +1,7 @@
-ghost use Rattle.std.specs.Prelude.{◌≡◌, ◌↔◌, ◌∷◌, ◌<◌, IfOk, IfSome, IsErrOf, IsTrue, chars, false, length};
+ghost use Rattle.std.specs.Prelude.{◌≡◌, ◌↔◌, ◌∷◌, ◌<◌, IfErr, IfOk, IfSome, IsErrOf, IsTrue, chars, false, length};
 ghost use Rattle.mf_locale.specs.Chain.{each_truncation, truncations, und};
 ghost use Rattle.mf_locale.specs.Tag.{is_tag, lower_case, IsLowerTag};
+ghost use Rattle.mf_locale.specs.Refusals.{IsOfTag};
 ghost use Rattle.mf_locale.specs.declared.error.LocaleError.TheVariants.{BadTag};
 
 use crate::LocaleError;
@@ -75,6 +76,7 @@ impl Clone for Tag {
 pub fn read_tag(alloc: Global, text: &str) -> Result<Tag, LocaleError>
     ensures ok { IfOk result (λ tag. tag ≡ lower_case (chars text.now)) }
     ensures tag { IfOk result (λ _. IsTrue (is_tag (chars text.now))) }
+    ensures refused { IfErr result IsOfTag }
     ensures bad { IsErrOf result BadTag ↔ (is_tag (chars text.now) ≡ false) }
 {
     if !has_tag_shape(text) {

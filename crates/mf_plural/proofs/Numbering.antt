@@ -1,5 +1,5 @@
 -- The rules of a text, one after the other.
-use Rattle.std.proofs.Common.{◌≡◌, ◌∙◌, ℕ, ◌+◌, ◌<◌, ◌≤◌, Bool, true, false, cond, List, [], ◌∷◌, ◌++◌, length, map, Some, None, refl, ap, sym, subst, append_assoc, arith}
+use Rattle.std.proofs.Common.{◌≡◌, ◌∙◌, ℕ, ◌+◌, ◌<◌, ◌≤◌, Bool, true, false, cond, List, [], ◌∷◌, ◌++◌, length, map, Option, Some, None, Ok, Err, refl, ap, sym, subst, append_assoc, arith}
 use Rattle.std.specs.Prelude.{◌==◌, ◌||◌, nat_eq, All}
 use Rattle.std.specs.List.{AllByRecursion, IsDistinct, list_all, list_any}
 use Rattle.std.proofs.lemmas.Bool.{and_parts, false≢true}
@@ -13,7 +13,7 @@ use Rattle.std.proofs.lemmas.Map.Steps.{length-le_from_distinct_below}
 use Rattle.mf_plural.specs.Grammar.{rule_texts, without_blank_end}
 use Rattle.mf_plural.specs.Keywords.{has_keyword, place}
 use Rattle.mf_plural.specs.Reading.{new_rule}
-use Rattle.mf_plural.specs.Rules.{IsFirstBad, SpellEach, SpellsNewRule, SpellsRules}
+use Rattle.mf_plural.specs.Rules.{IsFirstBad, SpellEach, SpellsNewRule, SpellsRules, rules_behind, rules_of, with_rule}
 use Rattle.mf_plural.specs.Tokens.{is_white}
 use Rattle.mf_plural.specs.declared.rule.Category.{Category}
 use Rattle.mf_plural.specs.declared.rule.Category.TheVariants.{Zero, One, Two, Few, Many, Other}
@@ -25,9 +25,16 @@ pub record ReadsFront (text rest : List ℕ) (rules : List Rule) : Type 0 where
   pub front : List (List ℕ)
   pub parts : rule_texts text ≡ front ++ rule_texts rest
   pub good : SpellEach [] front rules
+  pub computed : rules_of text ≡ rules_behind rules (rule_texts rest)
 
 pub front_start : (text : List ℕ) → ReadsFront text text []
-front_start text = record { front = []; parts = refl; good = tt }
+front_start text = record { front = []; parts = refl; good = tt; computed = refl }
+
+-- what comes of the rules so far and the texts that are left, where the next one is known
+computed_next : (rules : List Rule) (left after : List (List ℕ)) (first : List ℕ) (found : Option Rule) → left ≡ first ∷ after → found ≡ new_rule rules first
+    → rules_behind rules left ≡ with_rule found (length rules + 1) (λ rule. rules_behind (rules ++ rule ∷ []) after)
+computed_next rules left after first found texts is =
+    ap (rules_behind rules) texts ∙ ap (λ (o : Option Rule). with_rule o (length rules + 1) (λ rule. rules_behind (rules ++ rule ∷ []) after)) (sym is)
 
 spell_more : (earlier : List Rule) (texts : List (List ℕ)) (rules : List Rule) (text : List ℕ) (rule : Rule)
     → SpellEach earlier texts rules → SpellsNewRule (earlier ++ rules) text rule → SpellEach earlier (texts ++ text ∷ []) (rules ++ rule ∷ [])
@@ -46,6 +53,7 @@ front_more text rest first after rules next rule so_far texts is then =
       front = so_far.front ++ first ∷ [];
       parts = so_far.parts ∙ ap (λ ts. so_far.front ++ ts) texts ∙ sym (append_assoc so_far.front (first ∷ []) (rule_texts after));
       good = spell_more [] so_far.front rules first rule so_far.good (new_good rules first rule (sym is));
+      computed = so_far.computed ∙ computed_next rules (rule_texts rest) (rule_texts after) first (Some rule) texts is;
     })
 
 -- nothing is left
@@ -53,6 +61,10 @@ pub front_whole : (text rest : List ℕ) (rules : List Rule) → ReadsFront text
 front_whole text rest rules so_far none =
     let all : rule_texts text ≡ so_far.front = so_far.parts ∙ ap (λ ts. so_far.front ++ ts) none ∙ append-nil so_far.front in
     subst (λ ts. SpellEach [] ts rules) (sym all) so_far.good
+
+-- so all rules are computed
+pub front_computed : (text rest : List ℕ) (rules : List Rule) → ReadsFront text rest rules → rule_texts rest ≡ [] → rules_of text ≡ Ok rules
+front_computed text rest rules so_far none = so_far.computed ∙ ap (rules_behind rules) none
 
 none_spelled : (rules : List Rule) (first : List ℕ) → None ≡ new_rule rules first → (rule : Rule) → SpellsNewRule rules first rule → ⊥
 none_spelled rules first none rule spells = let some : new_rule rules first ≡ Some rule = new_is rules first rule spells in cc
@@ -70,6 +82,12 @@ front_bad text rest first after rules number so_far texts none counted = record 
   is_bad = none_spelled rules first none;
   counted = counted;
 }
+
+-- and its number is computed
+pub front_numbered : (text rest first after : List ℕ) (rules : List Rule) (number : ℕ) → ReadsFront text rest rules → rule_texts rest ≡ first ∷ rule_texts after
+    → None ≡ new_rule rules first → number ≡ length rules + 1 → rules_of text ≡ Err number
+front_numbered text rest first after rules number so_far texts none counted =
+    so_far.computed ∙ computed_next rules (rule_texts rest) (rule_texts after) first None texts none ∙ ap Err (sym counted)
 
 places : List Rule → List ℕ
 places rules = map (λ rule. place rule.keyword) rules

@@ -1,7 +1,8 @@
 -- Which rules a text spells, and which of its rules is the first bad one.
-use Rattle.std.specs.Prelude.{◌≡◌, ◌+◌, ℕ, false, List, [], ◌∷◌, ◌++◌, length}
+use Rattle.std.specs.Prelude.{◌≡◌, ◌+◌, ℕ, false, List, [], ◌∷◌, ◌++◌, length, Option, Some, None, Result, Ok, Err}
 use Rattle.mf_plural.specs.Grammar.{rule_texts}
 use Rattle.mf_plural.specs.Keywords.{has_keyword}
+use Rattle.mf_plural.specs.Reading.{new_rule}
 use Rattle.mf_plural.specs.Syntax.{SpellsRule}
 use Rattle.mf_plural.specs.declared.error.RuleError.{RuleError}
 use Rattle.mf_plural.specs.declared.error.RuleError.TheVariants.{BadRule, OutOfMemory}
@@ -38,3 +39,17 @@ pub record IsFirstBad (text : List ℕ) (number : ℕ) : Type 0 where
 abbrev pub IfBadRule : (ℕ → Type 0) → RuleError → Type 0
 IfBadRule P (BadRule number) = P number
 IfBadRule P OutOfMemory = Unit {0}
+
+-- what comes of a rule, or else the number of the text that is none
+abbrev pub with_rule : Option Rule → ℕ → (Rule → Result (List Rule) ℕ) → Result (List Rule) ℕ
+with_rule None number next = Err number
+with_rule (Some rule) number next = next rule
+
+-- some earlier rules and those of the texts behind them, or the number of the first text that is no new rule
+abbrev pub rules_behind : List Rule → List (List ℕ) → Result (List Rule) ℕ
+rules_behind earlier [] = Ok earlier
+rules_behind earlier (text ∷ texts) = with_rule (new_rule earlier text) (length earlier + 1) (λ rule. rules_behind (earlier ++ rule ∷ []) texts)
+
+-- the rules of a text, or the number of its first bad one
+abbrev pub rules_of : List ℕ → Result (List Rule) ℕ
+rules_of text = rules_behind [] (rule_texts text)

@@ -1,8 +1,8 @@
 //! Rules read from their text.
 
-ghost use Rattle.std.specs.Prelude.{◌≡◌, ◌+◌, ◌≤◌, length, IfErr, IfOk};
+ghost use Rattle.std.specs.Prelude.{◌≡◌, ◌+◌, ◌≤◌, length, IfErr, IfOk, Ok, Err};
 ghost use Rattle.mf_plural.specs.Keywords.{has_keyword as keyword_is_among, is_same as same_category};
-ghost use Rattle.mf_plural.specs.Rules.{IfBadRule, IsFirstBad, SpellsRules};
+ghost use Rattle.mf_plural.specs.Rules.{IfBadRule, IsFirstBad, SpellsRules, rules_of};
 ghost use Rattle.mf_plural.specs.Reading as reading;
 
 use crate::cut::{before_samples, first_rule, is_blank};
@@ -22,6 +22,8 @@ use std::alloc::{AllocError, Global};
 pub fn read_rules(alloc: Global, text: &str) -> Result<Rules, RuleError>
     ensures spelled { IfOk result (λ rules. SpellsRules text.now rules) }
     ensures bad { IfErr result (IfBadRule (IsFirstBad text.now)) }
+    ensures computed { IfOk result (λ rules. rules_of text.now ≡ Ok rules) }
+    ensures numbered { IfErr result (IfBadRule (λ number. rules_of text.now ≡ Err number)) }
 {
     let mut rules = Rules::new(alloc);
     let mut rest = text.as_bytes();

@@ -35,8 +35,8 @@ pub(crate) fn tag_field(
     };
     match read_tag(alloc, text) {
         Ok(tag) => Ok(Some(tag)),
-        Err(LocaleError::BadTag) => Ok(None),
         Err(LocaleError::OutOfMemory) => Err(AllocError),
+        Err(_) => Ok(None),
     }
 }
 

@@ -1,6 +1,6 @@
 use Rattle.std.proofs.Common.{◌∙◌, ◌+◌, ◌≤◌, [], ap, sym, subst, length}
 use Rattle.mf_plural.specs.Reading.{new_rule}
-use Rattle.mf_plural.proofs.Numbering.{blank_texts, front_bad, front_more, front_short, front_start, front_whole, ReadsFront}
+use Rattle.mf_plural.proofs.Numbering.{blank_texts, front_bad, front_computed, front_more, front_numbered, front_short, front_start, front_whole, ReadsFront}
 use Rattle.mf_plural.proofs.reading.read_rules.Goals as goal
 
 pub next_number-requires : goal.next_number-requires
@@ -27,4 +27,15 @@ loop-rest-preserved c =
 pub returns-clause-spelled : goal.returns-clause-spelled
 returns-clause-spelled c =
     front_whole c.args.text.now c.loop-rest.rest.now c.loop-rest.rules c.loop-rest.invariant
+    (blank_texts c.loop-rest.rest.now (sym c.loop-rest-test.ensures))
+
+pub returns-in_default-clause-numbered : goal.returns-in_default-clause-numbered
+returns-in_default-clause-numbered c =
+    front_numbered c.args.text.now c.loop-rest.rest.now c.first_rule.result.0.now c.first_rule.result.1.now c.loop-rest.rules c.next_number.result c.loop-rest.invariant
+    c.first_rule.ensures.texts (sym c.in_default.is ∙ c.in_ok-rule.ensures ∙ ap (λ rules. new_rule rules c.first_rule.result.0.now) c.as_slice.ensures)
+    (c.next_number.ensures ∙ ap (λ rules. length rules + 1) c.as_slice-in_default.ensures)
+
+pub returns-clause-computed : goal.returns-clause-computed
+returns-clause-computed c =
+    front_computed c.args.text.now c.loop-rest.rest.now c.loop-rest.rules c.loop-rest.invariant
     (blank_texts c.loop-rest.rest.now (sym c.loop-rest-test.ensures))
