@@ -1,6 +1,6 @@
 ghost use Rattle.std.specs.Prelude.{◌≡◌, ◌↔◌, ◌+◌, ◌<◌, ◌^◌, length, position, slice_get, IfOk, IsTrue, OnErr, OnOk};
 ghost use Rattle.std.specs.Option.{option_copied};
-ghost use Rattle.mf_edition.specs.Edition.{empty_edition, is_named, message_count, next_edition, put_all, HasRoom};
+ghost use Rattle.mf_edition.specs.Edition.{changed, empty_edition, is_named, message_count, next_edition, placed, put_all, HasRoom};
 ghost use Rattle.mf_edition.specs.Messages.{in_byte_order};
 ghost use Rattle.mf_edition.specs.Places.{place_for, put_place};
 ghost use Rattle.mf_edition.specs.declared.place.Place.{Place as Named};
@@ -102,9 +102,10 @@ impl Edition {
         let new = shared_place(self.alloc, tag, place)?;
         let mut places = self.places.clone()?;
         put_place(&mut places, new)?;
+        let number = self.number + 1;
         Ok(Edition {
             alloc: self.alloc,
-            number: self.number + 1,
+            number,
             items: self.items.clone()?,
             order: self.order.clone()?,
             places,
@@ -118,19 +119,31 @@ impl Edition {
         ensures ok { OnOk result (self.new ≡ next_edition self.old change.now) }
         ensures err { OnErr result (self.new ≡ self.old) }
     {
+        self.put(change)?;
+        self.number += 1;
+        Ok(())
+    }
+
+    /// Takes in what a change says, and keeps its number.
+    fn put(&mut self, change: &Change) -> Result<(), AllocError>
+        requires { length (changed self.old.items change.now) < 2 ^ 32 }
+        ensures number { self.new.number ≡ self.old.number }
+        ensures items { OnOk result (self.new.items ≡ changed self.old.items change.now) }
+        ensures places { OnOk result (self.new.places ≡ placed self.old.places change.now) }
+        ensures err { OnErr result (self.new ≡ self.old) }
+    {
         match change {
             Change::Catalogue { tag, messages } => self.put_messages(tag, messages.as_slice()),
             Change::Locale { tag, place, .. } => self.put_place(tag, place),
         }
     }
 
-    /// Becomes the edition after a publication of messages.
+    /// Takes in the messages of a publication.
     fn put_messages(&mut self, tag: &Tag, messages: &[Pair]) -> Result<(), AllocError>
-        requires few { length (put_all self.old.items tag.now (in_byte_order messages.now)) < 2 ^ 32 }
-        requires number { self.old.number + 1 < 2 ^ 64 }
-        ensures number { OnOk result (self.new.number ≡ self.old.number + 1) }
+        requires { length (put_all self.old.items tag.now (in_byte_order messages.now)) < 2 ^ 32 }
+        ensures number { self.new.number ≡ self.old.number }
         ensures items { OnOk result (self.new.items ≡ put_all self.old.items tag.now (in_byte_order messages.now)) }
-        ensures places { OnOk result (self.new.places ≡ self.old.places) }
+        ensures places { self.new.places ≡ self.old.places }
         ensures err { OnErr result (self.new ≡ self.old) }
     {
         let sources = sources_by_id(self.alloc, messages)?;
@@ -138,23 +151,19 @@ impl Edition {
         self.items.reserve(new.len())?;
         self.order.reserve(new.len())?;
         put_all_in_place(&mut self.items, &mut self.order, new);
-        self.number += 1;
         Ok(())
     }
 
-    /// Becomes the edition after a publication of a record.
+    /// Takes in the record of a tag.
     fn put_place(&mut self, tag: &Tag, place: &LocaleRecord) -> Result<(), AllocError>
-        requires { self.old.number + 1 < 2 ^ 64 }
-        ensures number { OnOk result (self.new.number ≡ self.old.number + 1) }
-        ensures items { OnOk result (self.new.items ≡ self.old.items) }
+        ensures number { self.new.number ≡ self.old.number }
+        ensures items { self.new.items ≡ self.old.items }
         ensures places { let new : Named = record { tag = tag.now; place = place.now } in
             OnOk result (self.new.places ≡ put_place self.old.places new) }
         ensures err { OnErr result (self.new ≡ self.old) }
     {
         let new = shared_place(self.alloc, tag, place)?;
-        put_place(&mut self.places, new)?;
-        self.number = self.number + 1;
-        Ok(())
+        put_place(&mut self.places, new)
     }
 
     /// Whether there surely are numbers for one more edition and for each message of its change.
