@@ -1,15 +1,18 @@
 -- What is so of every edition of every log.
-use Rattle.std.proofs.Common.{◌≡◌, ◌+◌, ℕ, Bool, true, false, List, [], ◌∷◌, ◌++◌, length, take, cond, refl, ap, sym, ◌∙◌, arith, length-append, length-take, take_all}
+use Rattle.std.proofs.Common.{◌≡◌, ◌==◌, ◌+◌, ℕ, Bool, true, false, List, [], ◌∷◌, ◌++◌, length, take, cond, refl, ap, sym, ◌∙◌, arith, length-append, length-take, take_all}
 use Rattle.std.proofs.lemmas.List.{take-append-le}
+use Rattle.std.specs.Cmp.Lexicographic.{pointwise}
 use Rattle.std.specs.List.{AllByRecursion, IsDistinct}
 use Rattle.mf_text.specs.declared.pair.Pair.{Pair}
 use Rattle.mf_edition.specs.declared.change.Change.{Change}
-use Rattle.mf_edition.specs.declared.change.Change.TheVariants.{Catalogue}
+use Rattle.mf_edition.specs.declared.change.Change.TheVariants.{Catalogue, Locale}
 use Rattle.mf_edition.specs.declared.change.Entry.{Entry}
 use Rattle.mf_edition.specs.declared.item.Item.{Item}
-use Rattle.mf_edition.specs.Edition.{changed, edition_after, empty_edition, is_named, is_same_name, next_edition, put, put_all, ChangesAreBounded, EditionState, EditionsAreNumbered, EditionsFollow, EditionsHaveDistinctNames, EditionsStay, HasDistinctNames}
+use Rattle.mf_edition.specs.declared.place.Place.{Place}
+use Rattle.mf_edition.specs.Edition.{changed, edition_after, empty_edition, is_named, is_same_name, next_edition, placed, put, put_all, ChangesAreBounded, EditionState, EditionsAreNumbered, EditionsFollow, EditionsHaveDistinctNames, EditionsHaveDistinctTags, EditionsStay, HasDistinctNames, HasDistinctTags}
 use Rattle.mf_edition.specs.Messages.{in_byte_order}
 use Rattle.mf_edition.specs.Order.{name_of, names_of, Name}
+use Rattle.mf_edition.specs.Places.{is_for, put_place}
 use Rattle.mf_edition.proofs.Growth.{length-changed}
 
 -- a name that none of the items has
@@ -39,6 +42,7 @@ HasDistinctNames-put_all items tag (message ∷ messages) distinct =
 
 HasDistinctNames-changed : (items : List Item) (change : Change) → HasDistinctNames items → HasDistinctNames (changed items change)
 HasDistinctNames-changed items (Catalogue tag messages) distinct = HasDistinctNames-put_all items tag (in_byte_order messages) distinct
+HasDistinctNames-changed items (Locale tag place size) distinct = distinct
 
 HasDistinctNames-after : (edition : EditionState) (entries : List Entry) → HasDistinctNames edition.items → HasDistinctNames (edition_after edition entries).items
 HasDistinctNames-after edition [] distinct = distinct
@@ -48,6 +52,39 @@ HasDistinctNames-after edition (entry ∷ entries) distinct =
 pub distinct_names : EditionsHaveDistinctNames
 unfolding IsDistinct
 distinct_names log k = HasDistinctNames-after empty_edition (take k log) tt
+
+-- a tag that none of the records is of
+Untold : List ℕ → List Place → Type 0
+Untold tag places = AllByRecursion (λ other. pointwise ◌==◌ tag other.tag ≡ false) places
+
+Untold-put_place : (tag : List ℕ) (places : List Place) (new : Place) → Untold tag places → pointwise ◌==◌ tag new.tag ≡ false → Untold tag (put_place places new)
+unfolding Untold
+Untold-put_place tag [] new none other = (other, tt)
+Untold-put_place tag (place ∷ places) new none other =
+    elim (is_for new.tag place) as (λ b. AllByRecursion (λ other. pointwise ◌==◌ tag other.tag ≡ false) (cond b (record place { place = new.place } ∷ places) (place ∷ put_place places new)))
+    [ true ↦ (none.0, none.1) | false ↦ (none.0, Untold-put_place tag places new none.1 other) ]
+
+HasDistinctTags-put_place : (places : List Place) (new : Place) → HasDistinctTags places → HasDistinctTags (put_place places new)
+unfolding IsDistinct Untold
+HasDistinctTags-put_place [] new distinct = (tt, tt)
+HasDistinctTags-put_place (place ∷ places) new distinct = by (is_for new.tag place) refl (HasDistinctTags-put_place places new distinct.1)
+  where
+    by : (b : Bool) → is_for new.tag place ≡ b → HasDistinctTags (put_place places new) → HasDistinctTags (cond b (record place { place = new.place } ∷ places) (place ∷ put_place places new))
+    by true same rest = (distinct.0, distinct.1)
+    by false other rest = (Untold-put_place place.tag places new distinct.0 other, rest)
+
+HasDistinctTags-placed : (places : List Place) (change : Change) → HasDistinctTags places → HasDistinctTags (placed places change)
+HasDistinctTags-placed places (Catalogue tag messages) distinct = distinct
+HasDistinctTags-placed places (Locale tag place size) distinct = HasDistinctTags-put_place places (record { tag = tag; place = place }) distinct
+
+HasDistinctTags-after : (edition : EditionState) (entries : List Entry) → HasDistinctTags edition.places → HasDistinctTags (edition_after edition entries).places
+HasDistinctTags-after edition [] distinct = distinct
+HasDistinctTags-after edition (entry ∷ entries) distinct =
+    HasDistinctTags-after (next_edition edition entry.change) entries (HasDistinctTags-placed edition.places entry.change distinct)
+
+pub distinct_tags : EditionsHaveDistinctTags
+unfolding IsDistinct
+distinct_tags log k = HasDistinctTags-after empty_edition (take k log) tt
 
 number_after : (edition : EditionState) (entries : List Entry) → (edition_after edition entries).number ≡ edition.number + length entries
 number_after edition [] = omega arith

@@ -9,7 +9,7 @@ use Rattle.std.specs.declared.sync.Arc.{Arc}
 use Rattle.mf_text.specs.Order.{byte_cmp}
 use Rattle.mf_text.specs.declared.pair.Pair.{Pair}
 use Rattle.mf_edition.specs.declared.change.Change.{Change}
-use Rattle.mf_edition.specs.declared.change.Change.TheVariants.{Catalogue}
+use Rattle.mf_edition.specs.declared.change.Change.TheVariants.{Catalogue, Locale}
 use Rattle.mf_edition.specs.declared.item.Item.{Item}
 use Rattle.mf_edition.specs.Edition.{changed, is_named, message_count, put, put_all, EditionState, HasRoom}
 use Rattle.mf_edition.specs.Messages.{in_byte_order, insert_message, insert_messages}
@@ -49,13 +49,14 @@ length-changed items (Catalogue tag messages) =
     let fewer = length-insert_messages [] messages in
     let grown = length-put_all items tag (in_byte_order messages) in
     omega arith
+length-changed items (Locale tag place size) = omega arith
 
 -- so there is room where the sum fits
 pub room_from : (edition : EditionState) (change : Change) → length edition.items + message_count change < 2 ^ 32 → edition.number + 1 < 2 ^ 64 → HasRoom edition change
 room_from edition change few number = record { items = let grown = length-changed edition.items change in omega arith; number = number }
 
--- a copy of shared items shares the same items
-pub values_shared : (items copies : List (Arc Item Global)) → AllZip (λ a b. arc_value b ≡ arc_value a) items copies → map arc_value copies ≡ map arc_value items
+-- a copy of shared things shares the same things
+pub values_shared : {T : Type 0} (items copies : List (Arc T Global)) → AllZip (λ a b. arc_value b ≡ arc_value a) items copies → map arc_value copies ≡ map arc_value items
 values_shared [] [] all = refl
 values_shared [] (copy ∷ copies) all = absurd all
 values_shared (item ∷ items) [] all = absurd all

@@ -6,3 +6,5 @@ pub mod Growth
 pub mod EditionLaws
 pub mod Merged
 pub mod InPlace
+pub mod Places
+pub mod Sized

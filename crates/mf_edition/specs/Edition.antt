@@ -4,15 +4,18 @@ use Rattle.std.specs.List.{IsDistinct}
 use Rattle.std.specs.Cmp.Lexicographic.{pointwise}
 use Rattle.mf_text.specs.declared.pair.Pair.{Pair}
 use Rattle.mf_edition.specs.declared.change.Change.{Change}
-use Rattle.mf_edition.specs.declared.change.Change.TheVariants.{Catalogue}
+use Rattle.mf_edition.specs.declared.change.Change.TheVariants.{Catalogue, Locale}
 use Rattle.mf_edition.specs.declared.change.Entry.{Entry}
 use Rattle.mf_edition.specs.declared.item.Item.{Item}
+use Rattle.mf_edition.specs.declared.place.Place.{Place}
 use Rattle.mf_edition.specs.Messages.{in_byte_order}
+use Rattle.mf_edition.specs.Places.{is_for, put_place}
 
--- what an edition is: its number, and its messages in the order of their places
+-- what an edition is: its number, its messages in the order of their places, and the records of tags
 pub record EditionState : Type 0 where
   pub number : ℕ
   pub items : List Item
+  pub places : List Place
 
 -- the item is that of this tag and this id
 abbrev pub is_named : List ℕ → List ℕ → Item → Bool
@@ -32,17 +35,25 @@ put_all items tag (message ∷ messages) = put_all (put items tag message) tag m
 -- the list of messages after a change
 abbrev pub changed : List Item → Change → List Item
 changed items (Catalogue tag messages) = put_all items tag (in_byte_order messages)
+changed items (Locale tag place size) = items
+
+-- the records of tags after a change
+abbrev pub placed : List Place → Change → List Place
+placed places (Catalogue tag messages) = places
+placed places (Locale tag place size) = put_place places (record { tag = tag; place = place })
 
 -- the number of messages that a change has
 abbrev pub message_count : Change → ℕ
 message_count (Catalogue tag messages) = length messages
+message_count (Locale tag place size) = 0
 
 abbrev pub empty_edition : EditionState
-empty_edition = record { number = 0; items = [] }
+empty_edition = record { number = 0; items = []; places = [] }
 
 -- the edition after one more change
 abbrev pub next_edition : EditionState → Change → EditionState
-next_edition edition change = record { number = edition.number + 1; items = changed edition.items change }
+next_edition edition change =
+    record { number = edition.number + 1; items = changed edition.items change; places = placed edition.places change }
 
 -- the edition after entries
 abbrev pub edition_after : EditionState → List Entry → EditionState
@@ -65,6 +76,14 @@ is_same_name a b = pointwise ◌==◌ a.0 b.0 && pointwise ◌==◌ a.1 b.1
 -- no two messages have one tag and one id
 abbrev pub HasDistinctNames : List Item → Type 0
 HasDistinctNames items = IsDistinct is_same_name (map (λ item. (item.tag, item.id)) items)
+
+-- no two records are of one tag
+abbrev pub HasDistinctTags : List Place → Type 0
+HasDistinctTags places = IsDistinct (λ a b. is_for b.tag a) places
+
+-- in no edition are two records of one tag
+abbrev pub EditionsHaveDistinctTags : Type 0
+EditionsHaveDistinctTags = (log : List Entry) (k : ℕ) → HasDistinctTags (edition_of log k).places
 
 -- in no edition do two messages have one tag and one id
 abbrev pub EditionsHaveDistinctNames : Type 0

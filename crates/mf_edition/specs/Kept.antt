@@ -1,17 +1,25 @@
--- What an edition keeps: the messages, and the order in which they are searched for.
-use Rattle.std.specs.Prelude.{◌<◌, ◌^◌, ℕ, List, length}
+-- What an edition keeps: the messages, the order in which they are searched for, the records of tags, and the root record.
+use Rattle.std.specs.Prelude.{◌≡◌, ◌<◌, ◌^◌, ℕ, List, length}
+use Rattle.std.specs.Arc.{arc_value}
 use Rattle.std.specs.declared.alloc.Global.{Global}
 use Rattle.std.specs.declared.sync.Arc.{Arc}
+use Rattle.mf_locale.specs.Records.{root_record}
+use Rattle.mf_locale.specs.declared.record.LocaleRecord.{LocaleRecord}
 use Rattle.mf_edition.specs.declared.item.Item.{Item}
+use Rattle.mf_edition.specs.declared.place.Place.{Place}
 use Rattle.mf_edition.specs.Edition.{EditionState}
 use Rattle.mf_edition.specs.Order.{names_of, IsOrder}
-use Rattle.mf_edition.specs.Views.{item_values}
+use Rattle.mf_edition.specs.Views.{item_values, place_values}
 
 -- what callers see
-abbrev pub state_of : ℕ → List (Arc Item Global) → EditionState
-state_of number items = record { number = number; items = item_values items }
+abbrev pub state_of : ℕ → List (Arc Item Global) → List (Arc Place Global) → EditionState
+state_of number items places = record { number = number; items = item_values items; places = place_values places }
 
 -- there are numbers for the messages, and each is in the order
 pub record IsKept (items : List (Arc Item Global)) (order : List ℕ) : Type 0 where
   pub few : length items < 2 ^ 32
   pub ordered : IsOrder (names_of (item_values items)) order
+
+-- the shared record is the root record
+abbrev pub IsRoot : Arc LocaleRecord Global → Type 0
+IsRoot root = arc_value root ≡ root_record

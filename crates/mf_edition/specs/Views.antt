@@ -7,6 +7,7 @@ use Rattle.std.specs.declared.sync.Arc.{Arc}
 use Rattle.std.specs.declared.alloc.Global.{Global}
 use Rattle.mf_text.specs.declared.pair.Pair.{Pair}
 use Rattle.mf_edition.specs.declared.item.Item.{Item}
+use Rattle.mf_edition.specs.declared.place.Place.{Place}
 use Rattle.mf_edition.specs.Edition.{put}
 use Rattle.mf_edition.specs.Order.{names_of, Name}
 
@@ -17,6 +18,10 @@ entry_pair entry = record { name = entry.0.now; value = entry.1.now }
 -- the messages that shared ones are
 abbrev pub item_values : List (Arc Item Global) → List Item
 item_values items = map arc_value items
+
+-- the records that shared ones are
+abbrev pub place_values : List (Arc Place Global) → List Place
+place_values places = map arc_value places
 
 -- the message that an item is made of
 abbrev pub message_of : Item → Pair

@@ -1,9 +1,14 @@
 //! What is so of every edition of every log. None of these does anything when it is called.
-ghost use Rattle.mf_edition.specs.Edition.{ChangesAreBounded, EditionsAreNumbered, EditionsFollow, EditionsHaveDistinctNames, EditionsStay};
+ghost use Rattle.mf_edition.specs.Edition.{ChangesAreBounded, EditionsAreNumbered, EditionsFollow, EditionsHaveDistinctNames, EditionsHaveDistinctTags, EditionsStay};
 
 /// No two messages of an edition have one tag and one id.
 pub fn editions_have_distinct_names()
     ensures { EditionsHaveDistinctNames }
+{}
+
+/// No two records of an edition are of one tag.
+pub fn editions_have_distinct_tags()
+    ensures { EditionsHaveDistinctTags }
 {}
 
 /// Edition k of a log has the number k.

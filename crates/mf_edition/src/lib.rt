@@ -1,23 +1,27 @@
-//! The log of changes, and the editions of the messages that it makes.
+//! The log of changes, and the editions of the messages and locale records that it makes.
 #![tactic(auto)]
 
 mod change;
 mod edition;
+mod error;
 mod in_place;
 mod item;
 mod laws;
 mod log;
 mod order;
+mod place;
 mod publication;
 
 pub use change::{Change, Entry};
 pub use edition::Edition;
+pub use error::PublishError;
 pub use item::Item;
 pub use laws::{
     changes_are_bounded, editions_are_numbered, editions_follow, editions_have_distinct_names,
-    editions_stay,
+    editions_have_distinct_tags, editions_stay,
 };
-pub use log::{Log, PublishError};
+pub use log::Log;
+pub use place::Place;
 
 #[cfg(test)]
 mod tests;

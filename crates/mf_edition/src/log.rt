@@ -1,42 +1,37 @@
-ghost use Rattle.std.specs.Prelude.{◌≡◌, ◌++◌, [], ◌∷◌, length, slice_get, OnOk, OnErr};
+ghost use Rattle.std.specs.Prelude.{◌≡◌, ◌≤◌, ◌+◌, ◌++◌, [], ◌∷◌, length, slice_get, None, Some, IfErr, IfOk, OnOk, OnErr};
 ghost use Rattle.std.specs.Option.{option_copied};
 ghost use Rattle.mf_edition.specs.Edition.{next_edition, HasRoom};
+ghost use Rattle.mf_edition.specs.Sizes.{most_bytes, most_entries, refusal_of, size_of, used_by, IsDue};
 
-use crate::{Edition, Entry};
+use crate::{Change, Edition, Entry, PublishError};
 use std::alloc::{AllocError, Global};
 use std::marker::Model;
 
-/// Why a change isn't accepted.
-#[derive(Clone, Copy, Debug, PartialEq, Eq, Drop)]
-pub enum PublishError {
-    /// There is no memory for it.
-    OutOfMemory,
-}
+/// The most entries that a log may have.
+const MOST_ENTRIES: u64 = 65_536;
 
-impl From<AllocError> for PublishError {
-    ghost use Rattle.std.specs.Prelude.{◌≡◌};
-    ghost use Rattle.mf_edition.specs.declared.log.PublishError.TheVariants.{OutOfMemory};
-
-    ghost from_gives = { λ _ e. e ≡ OutOfMemory };
-
-    fn from(_: AllocError) -> PublishError {
-        PublishError::OutOfMemory
-    }
-}
+/// The most bytes that the changes of a log may count for.
+const MOST_BYTES: u64 = 268_435_456;
 
 /// The accepted changes in the order in which they were accepted, seen as the list of their entries.
+///
+/// There are at most 65,536 of them, and they count for at most 268,435,456 bytes.
 #[derive(Debug, Drop)]
 pub struct Log {
     entries: Vec<Entry>,
+    used: u64,
 }
 
 impl Model for Log {
     ghost use Rattle.std.specs.Prelude.{List as Listed};
     ghost use Rattle.mf_edition.specs.declared.change.Entry.{Entry};
+    ghost use Rattle.mf_edition.specs.Sizes.{IsWithin};
 
     ghost Value = { Listed Entry };
 
     ghost view = { λ l. l.entries.items };
+
+    ghost invariant = { λ l. IsWithin l.entries.items l.used };
 }
 
 impl Log {
@@ -46,14 +41,24 @@ impl Log {
     {
         Log {
             entries: Vec::new(alloc),
+            used: 0,
         }
     }
 
     /// The number of entries.
     pub fn len(&self) -> u64
-        ensures { result ≡ length self.now }
+        ensures len { result ≡ length self.now }
+        ensures few { result ≤ most_entries }
     {
         self.entries.len() as u64
+    }
+
+    /// The bytes that its changes count for.
+    pub fn used(&self) -> u64
+        ensures used { result ≡ used_by self.now }
+        ensures small { result ≤ most_bytes }
+    {
+        self.used
     }
 
     /// The entry at a place, counted from 0, if there is such a place.
@@ -63,13 +68,19 @@ impl Log {
         self.entries.get(k as usize)
     }
 
-    /// Puts an entry at the end.
+    /// Puts an entry at the end. After an error the log is as it was.
     pub fn push(&mut self, entry: Entry) -> Result<(), PublishError>
         ensures ok { OnOk result (self.new ≡ self.old ++ entry ∷ []) }
+        ensures accepted { OnOk result (refusal_of self.old entry.change ≡ None) }
+        ensures refused { IfErr result (IsDue (refusal_of self.old entry.change)) }
         ensures err { OnErr result (self.new ≡ self.old) }
     {
+        let used = self.used_with(&entry.change)?;
         match self.entries.push(entry) {
-            Ok(()) => Ok(()),
+            Ok(()) => {
+                self.used = used;
+                Ok(())
+            }
             Err(refused) => Err(AllocError::from(refused).into()),
         }
     }
@@ -79,9 +90,32 @@ impl Log {
         requires { HasRoom newest.old entry.change }
         ensures log { OnOk result (self.new ≡ self.old ++ entry ∷ []) }
         ensures newest { OnOk result (newest.new ≡ next_edition newest.old entry.change) }
+        ensures accepted { OnOk result (refusal_of self.old entry.change ≡ None) }
+        ensures refused { IfErr result (IsDue (refusal_of self.old entry.change)) }
         ensures err { OnErr result ((self.new ≡ self.old) × (newest.new ≡ newest.old)) }
     {
-        publish_entry(&mut self.entries, newest, entry)
+        let used = self.used_with(&entry.change)?;
+        publish_entry(&mut self.entries, newest, entry)?;
+        self.used = used;
+        Ok(())
+    }
+
+    /// The bytes that are used with one more change, where it is accepted.
+    fn used_with(&self, change: &Change) -> Result<u64, PublishError>
+        ensures accepted { IfOk result (λ _. refusal_of self.now change.now ≡ None) }
+        ensures used { IfOk result (λ used. used ≡ used_by self.now + size_of change.now) }
+        ensures refused { IfErr result (λ e. refusal_of self.now change.now ≡ Some e) }
+    {
+        let entries = self.len();
+        if entries >= MOST_ENTRIES {
+            return Err(PublishError::EditionsFull { entries });
+        }
+        let used = self.used;
+        let size = change.size();
+        if size > MOST_BYTES - used {
+            return Err(PublishError::StoreFull { used, size });
+        }
+        Ok(used + size)
     }
 }
 
@@ -90,7 +124,7 @@ fn publish_entry(
     entries: &mut Vec<Entry>,
     newest: &mut Edition,
     entry: Entry,
-) -> Result<(), PublishError>
+) -> Result<(), AllocError>
     requires { HasRoom newest.old entry.change }
     ensures entries { OnOk result (entries.new.items ≡ entries.old.items ++ entry ∷ []) }
     ensures newest { OnOk result (newest.new ≡ next_edition newest.old entry.change) }

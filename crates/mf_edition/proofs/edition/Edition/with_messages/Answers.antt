@@ -20,7 +20,7 @@ pub put_messages-requires-clause-order : goal.put_messages-requires-clause-order
 put_messages-requires-clause-order c =
     let items = values_shared _ _ c.in_ok-items.ensures.cases.0 in
     subst (λ order. IsOrder (names_of (item_values c.in_ok-items.items.items)) order) (sym c.deref.ensures.value)
-    (subst (λ its. IsOrder (names_of its) c.self.inside.order.items) (sym items) c.self.invariant.ordered)
+    (subst (λ its. IsOrder (names_of its) c.self.inside.order.items) (sym items) c.self.invariant.0.ordered)
 
 pub put_messages-requires-clause-room : goal.put_messages-requires-clause-room
 put_messages-requires-clause-room c = subst (λ items. length items < 2 ^ 32) (sym (made (goal.at.put_messages-requires-clause-room c).In_ok-items)) c.requires.few
@@ -28,10 +28,13 @@ put_messages-requires-clause-room c = subst (λ items. length items < 2 ^ 32) (s
 pub invariant_of-result : goal.invariant_of-result
 invariant_of-result c =
     let items = c.in_ok-order.ensures.items ∙ made (goal.at.invariant_of-result c).In_ok-items in
-    record {
+    (record {
       few = subst (λ n. n < 2 ^ 32) (length-map c.put_messages.new.items.items arc_value) (subst (λ its. length its < 2 ^ 32) (sym items) c.requires.few);
       ordered = c.in_ok-order.ensures.order;
-    }
+    }, c.in_ok-clone-2.ensures.cases ∙ c.self.invariant.1)
 
 pub returns-clause-items : goal.returns-clause-items
 returns-clause-items c = c.in_ok-order.ensures.items ∙ made (goal.at.returns-clause-items c).In_ok-items
+
+pub returns-clause-places : goal.returns-clause-places
+returns-clause-places c = values_shared _ _ c.in_ok-clone.ensures.cases.0 ∙ ap (λ edition. edition.places) c.self.view_is

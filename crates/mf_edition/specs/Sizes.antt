@@ -1,0 +1,56 @@
+-- The bytes that changes count for, and which changes a log accepts.
+use Rattle.std.specs.Prelude.{◌≡◌, ◌≤◌, ◌+◌, ◌-◌, ◌^◌, ℕ, Option, None, Some, List, [], ◌∷◌, encode_utf8_all, length, min, nat_le, if◌then◌else◌}
+use Rattle.mf_text.specs.declared.pair.Pair.{Pair}
+use Rattle.mf_edition.specs.declared.change.Change.{Change}
+use Rattle.mf_edition.specs.declared.change.Change.TheVariants.{Catalogue, Locale}
+use Rattle.mf_edition.specs.declared.change.Entry.{Entry}
+use Rattle.mf_edition.specs.declared.error.PublishError.{PublishError}
+use Rattle.mf_edition.specs.declared.error.PublishError.TheVariants.{EditionsFull, StoreFull, OutOfMemory}
+
+-- the bytes of a text in UTF-8
+abbrev pub byte_count : List ℕ → ℕ
+byte_count text = length (encode_utf8_all text)
+
+-- the bytes of the ids and the sources of messages
+abbrev pub messages_size : List Pair → ℕ
+messages_size [] = 0
+messages_size (message ∷ messages) = byte_count message.name + byte_count message.value + messages_size messages
+
+-- a size as it is counted and shown: at most the greatest number of 64 bits
+abbrev pub shown : ℕ → ℕ
+shown size = min size (2 ^ 64 - 1)
+
+-- the size of a change: 64 bytes, and those of the texts that it has
+abbrev pub size_of : Change → ℕ
+size_of (Catalogue tag messages) = shown (64 + byte_count tag + messages_size messages)
+size_of (Locale tag place size) = size
+
+-- the sizes of the changes of a log together
+abbrev pub used_by : List Entry → ℕ
+used_by [] = 0
+used_by (entry ∷ entries) = size_of entry.change + used_by entries
+
+-- the most entries that a log may have
+abbrev pub most_entries : ℕ
+most_entries = 65536
+
+-- the most bytes that the changes of a log may count for
+abbrev pub most_bytes : ℕ
+most_bytes = 268435456
+
+-- why a log doesn't accept a change, if it doesn't: it has all the entries that it may have, or else there are too few bytes left
+abbrev pub refusal_of : List Entry → Change → Option PublishError
+refusal_of log change =
+    if nat_le most_entries (length log) then Some (EditionsFull (length log)) else
+    (if nat_le (used_by log + size_of change) most_bytes then None else Some (StoreFull (used_by log) (size_of change)))
+
+-- the error that a change gets: the refusal, where there is one, and else want of memory
+abbrev pub IsDue : Option PublishError → PublishError → Type 0
+IsDue (Some refusal) error = error ≡ refusal
+IsDue None error = error ≡ OutOfMemory
+
+-- the log has no more entries and no more bytes than it may have, and so many bytes are counted for it
+pub record IsWithin (log : List Entry) (used : ℕ) : Type 0 where
+  pub few : length log ≤ most_entries
+  pub exact : used ≡ used_by log
+  pub small : used ≤ most_bytes
