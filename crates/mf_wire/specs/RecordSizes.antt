@@ -7,10 +7,10 @@ use Rattle.mf_wire.specs.Fields.{string_field}
 
 -- the bytes of a record's text as it is given
 abbrev pub text_size : List ℕ → Data → ℕ
-text_size name record = unwrap_or (option_map length (string_field name record)) 0
+text_size name given = unwrap_or (option_map length (string_field name given)) 0
 
 -- the size of the publication of a record for a tag: 64 bytes, those of the tag, and those of six of the record's texts
 abbrev pub record_size : List ℕ → Data → ℕ
-record_size tag record = shown
-    (64 + byte_count tag + text_size (codes "decimal") record + text_size (codes "group") record + text_size (codes "minus") record
-    + text_size (codes "plus") record + text_size (codes "plural") record + text_size (codes "ordinal") record)
+record_size tag given = shown
+    (64 + byte_count tag + text_size (codes "decimal") given + text_size (codes "group") given + text_size (codes "minus") given
+    + text_size (codes "plus") given + text_size (codes "plural") given + text_size (codes "ordinal") given)

@@ -39,15 +39,15 @@ fault_reply (bad_rule field number) = BadLocale field (Some number)
 
 -- a publication of a record for a tag, or the reply that refuses the record
 abbrev pub record_request : List ℕ → Data → Result LocaleRecord RecordFault → Result Request Reply
-record_request tag record (Ok place) = Ok (Publish (Locale tag place (record_size tag record)))
-record_request tag record (Err fault) = Err (fault_reply fault)
+record_request tag given (Ok place) = Ok (Publish (Locale tag place (record_size tag given)))
+record_request tag given (Err fault) = Err (fault_reply fault)
 
 -- a publication of a locale record: a tag and an object, then the record's own fields
 abbrev pub locale_request : Data → Result Request Reply
 locale_request request =
     need field.Tag (tag_field (codes "tag") request)
     (λ tag. need field.Record (object_field (codes "record") request)
-    (λ record. record_request tag record (record_of record)))
+    (λ given. record_request tag given (record_of given)))
 
 -- a request for a sentence: a tag, an id, arguments, and the least edition that it may come from
 abbrev pub format_request : Data → Result Request Reply

@@ -17,7 +17,9 @@ pub enum WireError {
     BadJson,
     /// This field is the first that is missing, of another kind or out of range.
     #[error("the field {} is missing or wrong", field.as_str())]
-    BadRequest { field: Field },
+    BadRequest {
+        field: Field,
+    },
     /// This field of the locale record is the first that is missing, of another kind or out of range, or has this rule as
     /// its first bad one, counted from 1.
     #[error("the field {} of the locale record is missing or wrong", field.as_str())]

@@ -109,7 +109,10 @@ fn the_first_wrong_field_is_named(rt: HostRuntime) -> Result<(), Fail> {
         ("{\"op\":\"locale\",\"tag\":1,\"record\":1}", "tag"),
         ("{\"op\":\"locale\",\"tag\":\"e\",\"record\":{}}", "tag"),
         ("{\"op\":\"locale\",\"tag\":\"en\"}", "record"),
-        ("{\"op\":\"locale\",\"tag\":\"en\",\"record\":null}", "record"),
+        (
+            "{\"op\":\"locale\",\"tag\":\"en\",\"record\":null}",
+            "record",
+        ),
         (
             "{\"op\":\"locale\",\"tag\":\"en\",\"record\":[1]}",
             "record",
@@ -245,14 +248,23 @@ fn a_bad_rule_has_its_number(rt: HostRuntime) -> Result<(), Fail> {
     for (plural, ordinal, field, number) in [
         ("one: i = 1; few: n in 2..4", "", RecordField::Plural, 2),
         ("one", "two", RecordField::Plural, 1),
-        ("one: i = 1", "one: n = 1; two: n = 2; few", RecordField::Ordinal, 3),
+        (
+            "one: i = 1",
+            "one: n = 1; two: n = 2; few",
+            RecordField::Ordinal,
+            3,
+        ),
     ] {
         let line = record(alloc, ",", plural, ordinal)?;
         let refusal = WireError::BadLocale {
             field,
             rule: Some(number),
         };
-        assert_eq!(rt; read_request(alloc, line.as_bytes()).err(), Some(refusal), "{line}");
+        assert_eq!(rt;
+            read_request(alloc, line.as_bytes()).err(),
+            Some(refusal),
+            "{line}"
+        );
     }
     Ok(())
 }
