@@ -1,5 +1,5 @@
 -- The defined reply to a line, and the desk after it, are functions of the desk and the line.
-use Rattle.std.proofs.Common.{◌≡◌, ◌∙◌, inl, inr, ℕ, Bool, true, false, List, [], ◌∷◌, Option, Some, None, Result, Ok, Err, refl, ap, sym, subst}
+use Rattle.std.proofs.Common.{◌≡◌, ◌∙◌, inl, inr, ℕ, List, [], ◌∷◌, Option, Some, None, Result, Ok, Err, refl, ap, sym, subst}
 use Rattle.std.specs.Result.{MatchResult}
 use Rattle.mf_edition.specs.Sizes.{refusal_of}
 use Rattle.mf_edition.specs.declared.change.Change.{Change}

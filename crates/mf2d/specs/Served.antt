@@ -8,7 +8,7 @@ use Rattle.mf_edition.specs.Sizes.{refusal_of}
 use Rattle.mf_wire.specs.Replies.{reply_line, memory_line, op_of}
 use Rattle.mf_wire.specs.Requests.{request_of}
 use Rattle.mf_wire.specs.declared.reply.Reply.{Reply}
-use Rattle.mf_wire.specs.declared.reply.Reply.TheVariants as reply
+use Rattle.mf_wire.specs.declared.reply.Reply.TheVariants as told
 use Rattle.mf_wire.specs.declared.request.Request.{Request}
 use Rattle.mf_wire.specs.declared.request.Request.TheVariants.{Publish, Format, Lint}
 use Rattle.mf2d.specs.Answers.{answer, lint_reply}
@@ -32,13 +32,13 @@ next_entry desk change = record { caller = 0; nth = length desk + 1; change = ch
 -- the publication is the next edition, and its entry stands at the end of the log
 abbrev pub Accepts : Change → Desk → List ℕ → Desk → Type 0
 Accepts change desk reply after =
-    (reply ≡ reply_line (reply.Accepted (length desk + 1) (op_of change))) × (after ≡ desk ++ next_entry desk change ∷ [])
+    (reply ≡ reply_line (told.Accepted (length desk + 1) (op_of change))) × (after ≡ desk ++ next_entry desk change ∷ [])
 
 -- the publication is accepted where nothing refuses it; a refused one leaves the desk as it was
 abbrev pub Publishes : Option PublishError → Change → Desk → List ℕ → Desk → Type 0
 Publishes None change desk reply after = Accepts change desk reply after
-Publishes (Some (EditionsFull entries)) change desk reply after = Replies (reply.EditionsFull entries) desk reply after
-Publishes (Some (StoreFull used size)) change desk reply after = Replies (reply.StoreFull used size) desk reply after
+Publishes (Some (EditionsFull entries)) change desk reply after = Replies (told.EditionsFull entries) desk reply after
+Publishes (Some (StoreFull used size)) change desk reply after = Replies (told.StoreFull used size) desk reply after
 Publishes (Some OutOfMemory) change desk reply after = ⊥
 
 -- the defined reply to a request, and the desk after it

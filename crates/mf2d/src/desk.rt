@@ -61,6 +61,10 @@ impl Desk {
             Ok(Request::Lint { source }) => reply_line(alloc, &lint_reply(alloc, &source)?),
             Err(WireError::BadJson) => reply_line(alloc, &Reply::BadJson),
             Err(WireError::BadRequest { field }) => reply_line(alloc, &Reply::BadRequest { field }),
+            Err(WireError::BadLocale { field, rule }) => reply_line(
+                alloc,
+                &Reply::BadLocale { field, rule },
+            ),
             Err(WireError::NotBuilt) => reply_line(alloc, &Reply::NotBuilt),
             Err(WireError::OutOfMemory) => Err(AllocError),
         }
@@ -88,14 +92,13 @@ impl Desk {
             nth: number,
             change,
         };
-        match self.log.publish(&mut self.newest, entry) {
-            Ok(()) => Ok(reply),
-            Err(PublishError::EditionsFull { entries }) =>
-                reply_line(alloc, &Reply::EditionsFull { entries }),
-            Err(PublishError::StoreFull { used, size }) =>
-                reply_line(alloc, &Reply::StoreFull { used, size }),
-            Err(PublishError::OutOfMemory) => Err(AllocError),
-        }
+        let refusal = match self.log.publish(&mut self.newest, entry) {
+            Ok(()) => return Ok(reply),
+            Err(PublishError::EditionsFull { entries }) => Reply::EditionsFull { entries },
+            Err(PublishError::StoreFull { used, size }) => Reply::StoreFull { used, size },
+            Err(PublishError::OutOfMemory) => return Err(AllocError),
+        };
+        reply_line(alloc, &refusal)
     }
 
     /// The reply line to a request for a sentence.

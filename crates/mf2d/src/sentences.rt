@@ -75,9 +75,11 @@ fn a_log_has_its_most_publications(rt: HostRuntime) -> Result<(), Fail> {
         lines.push(message.as_str())?;
     }
     let told = replies(alloc, &lines)?;
-    assert!(rt; told.as_str().ends_with(
-        "\n{\"edition\":65536,\"ok\":\"publish\"}\n{\"entries\":65536,\"error\":\"editions-full\"}\n{\"entries\":65536,\"error\":\"editions-full\"}\n"
-    ));
+    assert!(rt;
+        told.as_str().ends_with(
+            "\n{\"edition\":65536,\"ok\":\"publish\"}\n{\"entries\":65536,\"error\":\"editions-full\"}\n{\"entries\":65536,\"error\":\"editions-full\"}\n"
+        )
+    );
     Ok(())
 }
 

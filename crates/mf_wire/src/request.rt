@@ -102,21 +102,21 @@ fn locale(alloc: Global, value: &Value) -> Result<Request, WireError>
     let Some(tag) = tag_field(alloc, value, "tag")? else {
         return Err(WireError::BadRequest { field: Field::Tag });
     };
-    let Some(record) = object_field(value, "record") else {
+    let Some(given) = object_field(value, "record") else {
         return Err(WireError::BadRequest {
             field: Field::Record,
         });
     };
-    locale_record(alloc, tag, record)
+    locale_record(alloc, tag, given)
 }
 
 /// A publication of the record that an object is.
-fn locale_record(alloc: Global, tag: Tag, record: &Value) -> Result<Request, WireError>
-    ensures request { IfOk result (λ request. record_request tag (view record.now) (record_of (view record.now)) ≡ Ok request) }
-    ensures refused { IfErr result (IsDue (record_request tag (view record.now) (record_of (view record.now)))) }
+fn locale_record(alloc: Global, tag: Tag, given: &Value) -> Result<Request, WireError>
+    ensures request { IfOk result (λ request. record_request tag (view given.now) (record_of (view given.now)) ≡ Ok request) }
+    ensures refused { IfErr result (IsDue (record_request tag (view given.now) (record_of (view given.now)))) }
 {
-    let size = record_size(&tag, record);
-    match read_record(alloc, record) {
+    let size = record_size(&tag, given);
+    match read_record(alloc, given) {
         Ok(place) => Ok(Request::Publish(Change::Locale { tag, place, size })),
         Err(LocaleError::BadField { field }) => Err(WireError::BadLocale { field, rule: None }),
         Err(LocaleError::BadRule { field, rule }) => Err(WireError::BadLocale {

@@ -9,16 +9,16 @@ use serde_json::Value;
 
 /// The bytes that the publication of a locale record counts for: 64, those of the tag, and those of the record's texts as
 /// they are given.
-pub(crate) fn record_size(tag: &Tag, record: &Value) -> u64
-    ensures { result ≡ sizes.record_size tag.now (view record.now) }
+pub(crate) fn record_size(tag: &Tag, given: &Value) -> u64
+    ensures { result ≡ sizes.record_size tag.now (view given.now) }
 {
     let size = more(64, tag.as_text().as_str().len());
-    let size = more(size, text_size(record, "decimal"));
-    let size = more(size, text_size(record, "group"));
-    let size = more(size, text_size(record, "minus"));
-    let size = more(size, text_size(record, "plus"));
-    let size = more(size, text_size(record, "plural"));
-    more(size, text_size(record, "ordinal"))
+    let size = more(size, text_size(given, "decimal"));
+    let size = more(size, text_size(given, "group"));
+    let size = more(size, text_size(given, "minus"));
+    let size = more(size, text_size(given, "plus"));
+    let size = more(size, text_size(given, "plural"));
+    more(size, text_size(given, "ordinal"))
 }
 
 /// A size and more bytes.
@@ -29,8 +29,8 @@ fn more(size: u64, bytes: usize) -> u64
 }
 
 /// The bytes of a record's text.
-fn text_size(record: &Value, name: &str) -> usize
-    ensures { result ≡ sizes.text_size name.now (view record.now) }
+fn text_size(given: &Value, name: &str) -> usize
+    ensures { result ≡ sizes.text_size name.now (view given.now) }
 {
-    string_field(record, name).map_or(0, str::len)
+    string_field(given, name).map_or(0, str::len)
 }
