@@ -22,8 +22,8 @@ use std::alloc::Global;
 /// # Errors
 ///
 /// The fields are looked at in the order `version`, `dir`, `decimal`, `group`, `minus`, `plus`, `primary`, `secondary`,
-/// `minGroup`, `plural`, `ordinal`. `BadField` names the first one, if that is missing, of another kind or out of range,
-/// and `BadRule` if it has a bad rule. `OutOfMemory`.
+/// `minGroup`, `plural`, `ordinal`, and the first that is wrong is named: `BadField` where it is missing, of another
+/// kind or out of range, and `BadRule` where it is a text with a bad rule. `OutOfMemory`. It is never `BadTag`.
 pub fn read_record(alloc: Global, value: &Value) -> Result<LocaleRecord, LocaleError>
     ensures ok { IfOk result (λ r. record_of (view value.now) ≡ Ok r) }
     ensures refused { IfErr result (IsDue (record_of (view value.now))) }
