@@ -1,6 +1,8 @@
 use super::*;
-use mf_locale::read_tag;
-use mf_text::{Pair, Pairs, Text};
+use mf_locale::{LocaleRecord, read_tag};
+use mf_numfmt::Layout;
+use mf_plural::Rules;
+use mf_text::{Direction, Pair, Pairs, Text};
 use std::alloc::Global;
 use std::fmt::Write;
 use std::test::Fail;
@@ -164,5 +166,153 @@ fn a_log_grows_at_its_end(rt: HostRuntime) -> Result<(), Fail> {
     assert_eq!(rt; log.publish(&mut newest, entry), Ok(()));
     assert_eq!(rt; log.len(), 4);
     assert_eq!(rt; newest.number(), 1);
+    Ok(())
+}
+
+/// A record that is told by its decimal separator.
+fn record(alloc: Global, decimal: &str) -> Result<LocaleRecord, Fail> {
+    let layout = Layout {
+        decimal: Text::of(alloc, decimal)?,
+        group: Text::of(alloc, "")?,
+        minus: Text::of(alloc, "-")?,
+        plus: Text::of(alloc, "+")?,
+        primary: 3,
+        secondary: 2,
+        min_group: 1,
+    };
+    Ok(LocaleRecord {
+        dir: Direction::Rtl,
+        layout,
+        plural: Rules::new(alloc),
+        ordinal: Rules::new(alloc),
+    })
+}
+
+fn locale(alloc: Global, tag: &str, decimal: &str, size: u64) -> Result<Change, Fail> {
+    Ok(Change::Locale {
+        tag: read_tag(alloc, tag)?,
+        place: record(alloc, decimal)?,
+        size,
+    })
+}
+
+/// The tags with the decimal separators of their records, in the order of their publications.
+type Records = &'static [(&'static str, &'static str)];
+
+#[test]
+fn a_tag_has_the_record_of_the_first_tag_of_its_chain(rt: HostRuntime) -> Result<(), Fail> {
+    let rows: [(Records, &[(&str, &str)]); 4] = [
+        (&[], &[("en", "."), ("und", ".")]),
+        (&[("en", "e")], &[("en", "e"), ("en-gb", "e"), ("fr", ".")]),
+        (&[("und", "u")], &[("fr", "u"), ("und", "u")]),
+        (
+            &[
+                ("en", "e"),
+                ("und", "u"),
+                ("en-gb", "g"),
+                ("de", "d"),
+                ("en", "f"),
+            ],
+            &[
+                ("en", "f"),
+                ("en-us", "f"),
+                ("en-gb-oxendict", "g"),
+                ("de", "d"),
+                ("ens", "u"),
+            ],
+        ),
+    ];
+    for (records, expected) in rows {
+        let mut in_place = Edition::empty(rt.alloc())?;
+        let mut edition = Edition::empty(rt.alloc())?;
+        for (tag, decimal) in records {
+            let change = locale(rt.alloc(), tag, decimal, 64)?;
+            if edition.has_room(&change) && in_place.has_room(&change) {
+                edition = edition.next(&change)?;
+                in_place.advance(&change)?;
+            }
+        }
+        assert_eq!(rt; edition.number(), records.len() as u64);
+        assert_eq!(rt; edition.len(), 0);
+        for (text, decimal) in expected {
+            let tag = read_tag(rt.alloc(), text)?;
+            assert_eq!(rt;
+                edition.place_for(&tag).layout.decimal.as_str(),
+                *decimal,
+                "{text}"
+            );
+            assert_eq!(rt;
+                in_place.place_for(&tag).layout.decimal.as_str(),
+                *decimal,
+                "{text}"
+            );
+        }
+    }
+    Ok(())
+}
+
+#[test]
+fn a_change_has_the_size_of_its_texts(rt: HostRuntime) -> Result<(), Fail> {
+    let rows: [(&str, Messages, u64); 4] = [
+        ("en", &[], 66),
+        ("en-GB", &[("a", "bc")], 72),
+        ("en", &[("", ""), ("\u{e9}", "\u{1f600}")], 72),
+        ("en", &[("a", "b"), ("a", "c")], 70),
+    ];
+    for (tag, messages, size) in rows {
+        assert_eq!(rt; catalogue(rt.alloc(), tag, messages)?.size(), size);
+    }
+    assert_eq!(rt; locale(rt.alloc(), "en", ",", 77)?.size(), 77);
+    Ok(())
+}
+
+fn entry(nth: u64, change: Change) -> Entry {
+    Entry {
+        caller: 7,
+        nth,
+        change,
+    }
+}
+
+#[test]
+fn a_log_has_so_many_bytes(rt: HostRuntime) -> Result<(), Fail> {
+    let mut log = Log::new(rt.alloc());
+    let mut newest = Edition::empty(rt.alloc())?;
+    let full = Err(PublishError::StoreFull {
+        used: 268_435_389,
+        size: u64::MAX,
+    });
+    let large = locale(rt.alloc(), "en", ",", 268_435_389)?;
+    let huge = locale(rt.alloc(), "en", ",", u64::MAX)?;
+    let last = catalogue(rt.alloc(), "en", &[("b", "")])?;
+    assert_eq!(rt; log.push(entry(1, large)), Ok(()));
+    assert_eq!(rt; log.push(entry(2, huge)), full);
+    assert_eq!(rt; log.push(entry(2, last)), Ok(()));
+    assert_eq!(rt; log.used(), 268_435_456);
+    let full = Err(PublishError::StoreFull {
+        used: 268_435_456,
+        size: 67,
+    });
+    let more = catalogue(rt.alloc(), "en", &[("b", "")])?;
+    assert!(rt; newest.has_room(&more));
+    assert_eq!(rt; log.publish(&mut newest, entry(3, more)), full);
+    assert_eq!(rt; newest.number(), 0);
+    assert_eq!(rt; log.len(), 2);
+    assert_eq!(rt; log.used(), 268_435_456);
+    Ok(())
+}
+
+#[test]
+fn a_log_has_so_many_entries(rt: HostRuntime) -> Result<(), Fail> {
+    let mut log = Log::new(rt.alloc());
+    for nth in 1..65_537 {
+        let change = catalogue(rt.alloc(), "en", &[])?;
+        assert_eq!(rt; log.push(entry(nth, change)), Ok(()));
+    }
+    let full = Err(PublishError::EditionsFull { entries: 65_536 });
+    let huge = locale(rt.alloc(), "en", ",", u64::MAX)?;
+    assert_eq!(rt; log.push(entry(65_537, huge)), full);
+    assert_eq!(rt; log.len(), 65_536);
+    assert_eq!(rt; log.used(), 65_536 * 66);
     Ok(())
 }
