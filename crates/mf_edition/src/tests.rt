@@ -199,6 +199,30 @@ fn locale(alloc: Global, tag: &str, decimal: &str, size: u64) -> Result<Change, 
 /// The tags with the decimal separators of their records, in the order of their publications.
 type Records = &'static [(&'static str, &'static str)];
 
+/// The edition that records make of the empty one.
+fn with_records(alloc: Global, records: Records) -> Result<Edition, Fail> {
+    let mut edition = Edition::empty(alloc)?;
+    for (tag, decimal) in records {
+        let change = locale(alloc, tag, decimal, 64)?;
+        if edition.has_room(&change) {
+            edition = edition.next(&change)?;
+        }
+    }
+    Ok(edition)
+}
+
+/// The same edition, made in place.
+fn with_records_in_place(alloc: Global, records: Records) -> Result<Edition, Fail> {
+    let mut edition = Edition::empty(alloc)?;
+    for (tag, decimal) in records {
+        let change = locale(alloc, tag, decimal, 64)?;
+        if edition.has_room(&change) {
+            edition.advance(&change)?;
+        }
+    }
+    Ok(edition)
+}
+
 #[test]
 fn a_tag_has_the_record_of_the_first_tag_of_its_chain(rt: HostRuntime) -> Result<(), Fail> {
     let rows: [(Records, &[(&str, &str)]); 4] = [
@@ -223,17 +247,8 @@ fn a_tag_has_the_record_of_the_first_tag_of_its_chain(rt: HostRuntime) -> Result
         ),
     ];
     for (records, expected) in rows {
-        let mut in_place = Edition::empty(rt.alloc())?;
-        let mut edition = Edition::empty(rt.alloc())?;
-        for (tag, decimal) in records {
-            let change = locale(rt.alloc(), tag, decimal, 64)?;
-            if edition.has_room(&change) && in_place.has_room(&change) {
-                edition = edition.next(&change)?;
-                in_place.advance(&change)?;
-            }
-        }
-        assert_eq!(rt; edition.number(), records.len() as u64);
-        assert_eq!(rt; edition.len(), 0);
+        let edition = with_records(rt.alloc(), records)?;
+        let in_place = with_records_in_place(rt.alloc(), records)?;
         for (text, decimal) in expected {
             let tag = read_tag(rt.alloc(), text)?;
             assert_eq!(rt;
@@ -274,31 +289,40 @@ fn entry(nth: u64, change: Change) -> Entry {
     }
 }
 
+fn full(used: u64, size: u64) -> Result<(), PublishError> {
+    Err(PublishError::StoreFull { used, size })
+}
+
 #[test]
 fn a_log_has_so_many_bytes(rt: HostRuntime) -> Result<(), Fail> {
+    let rows = [
+        (268_435_389, Ok(())),
+        (68, full(268_435_389, 68)),
+        (u64::MAX, full(268_435_389, u64::MAX)),
+        (67, Ok(())),
+        (67, full(268_435_456, 67)),
+    ];
     let mut log = Log::new(rt.alloc());
-    let mut newest = Edition::empty(rt.alloc())?;
-    let full = Err(PublishError::StoreFull {
-        used: 268_435_389,
-        size: u64::MAX,
-    });
-    let large = locale(rt.alloc(), "en", ",", 268_435_389)?;
-    let huge = locale(rt.alloc(), "en", ",", u64::MAX)?;
-    let last = catalogue(rt.alloc(), "en", &[("b", "")])?;
-    assert_eq!(rt; log.push(entry(1, large)), Ok(()));
-    assert_eq!(rt; log.push(entry(2, huge)), full);
-    assert_eq!(rt; log.push(entry(2, last)), Ok(()));
-    assert_eq!(rt; log.used(), 268_435_456);
-    let full = Err(PublishError::StoreFull {
-        used: 268_435_456,
-        size: 67,
-    });
-    let more = catalogue(rt.alloc(), "en", &[("b", "")])?;
-    assert!(rt; newest.has_room(&more));
-    assert_eq!(rt; log.publish(&mut newest, entry(3, more)), full);
-    assert_eq!(rt; newest.number(), 0);
+    for (size, expected) in rows {
+        let change = locale(rt.alloc(), "en", ",", size)?;
+        assert_eq!(rt; log.push(entry(1, change)), expected);
+    }
     assert_eq!(rt; log.len(), 2);
     assert_eq!(rt; log.used(), 268_435_456);
+    Ok(())
+}
+
+#[test]
+fn a_refused_publication_is_no_edition(rt: HostRuntime) -> Result<(), Fail> {
+    let mut log = Log::new(rt.alloc());
+    let mut newest = Edition::empty(rt.alloc())?;
+    for (size, expected) in [(268_435_390, Ok(())), (67, full(268_435_390, 67))] {
+        let change = locale(rt.alloc(), "en", ",", size)?;
+        if newest.has_room(&change) {
+            assert_eq!(rt; log.publish(&mut newest, entry(1, change)), expected);
+        }
+    }
+    assert_eq!(rt; newest.number(), 1);
     Ok(())
 }
 
