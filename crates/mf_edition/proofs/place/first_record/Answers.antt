@@ -1,5 +1,5 @@
 -- The first tag that has a record is looked for from the longest on.
-use Rattle.std.proofs.Common.{◌≡◌, ℕ, List, None, Some, ◌∷◌, take, ap, sym, ◌∙◌, lit<, arith}
+use Rattle.std.proofs.Common.{◌≡◌, ℕ, List, None, Some, take, ap, sym, ◌∙◌, lit<, arith}
 use Rattle.std.proofs.lemmas.Str.Pattern.{rfind_char}
 use Rattle.std.specs.List.{slice_range}
 use Rattle.std.specs.Option.{option_or}

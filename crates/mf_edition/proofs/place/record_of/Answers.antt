@@ -1,5 +1,4 @@
-use Rattle.std.proofs.Common.{◌≡◌, Bool, true, false, Some, ap, sym, ◌∙◌}
-use Rattle.mf_edition.specs.Places.{is_for}
+use Rattle.std.proofs.Common.{true, false, Some, ap, sym, ◌∙◌}
 use Rattle.std.specs.Arc.{arc_value}
 use Rattle.mf_edition.specs.declared.place.Place.{Place}
 use Rattle.mf_edition.proofs.Places.{record_at, same_test}
