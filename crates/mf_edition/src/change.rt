@@ -11,7 +11,10 @@ const OVERHEAD: u64 = 64;
 #[derive(Debug, Drop)]
 pub enum Change {
     /// The sources of messages of one tag, by their ids.
-    Catalogue { tag: Tag, messages: Pairs },
+    Catalogue {
+        tag: Tag,
+        messages: Pairs,
+    },
     /// The record of one tag. Its size is in bytes: 64, and those of the tag and of the texts that the record was read
     /// from.
     Locale {

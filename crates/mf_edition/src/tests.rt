@@ -1,6 +1,8 @@
 use super::*;
-use mf_locale::read_tag;
-use mf_text::{Pair, Pairs, Text};
+use mf_locale::{LocaleRecord, read_tag};
+use mf_numfmt::Layout;
+use mf_plural::Rules;
+use mf_text::{Direction, Pair, Pairs, Text};
 use std::alloc::Global;
 use std::fmt::Write;
 use std::test::Fail;
@@ -164,5 +166,166 @@ fn a_log_grows_at_its_end(rt: HostRuntime) -> Result<(), Fail> {
     assert_eq!(rt; log.publish(&mut newest, entry), Ok(()));
     assert_eq!(rt; log.len(), 4);
     assert_eq!(rt; newest.number(), 1);
+    Ok(())
+}
+
+/// A record that is told by its decimal separator.
+fn record(alloc: Global, decimal: &str) -> Result<LocaleRecord, Fail> {
+    let layout = Layout {
+        decimal: Text::of(alloc, decimal)?,
+        group: Text::of(alloc, "")?,
+        minus: Text::of(alloc, "-")?,
+        plus: Text::of(alloc, "+")?,
+        primary: 3,
+        secondary: 2,
+        min_group: 1,
+    };
+    Ok(LocaleRecord {
+        dir: Direction::Rtl,
+        layout,
+        plural: Rules::new(alloc),
+        ordinal: Rules::new(alloc),
+    })
+}
+
+fn locale(alloc: Global, tag: &str, decimal: &str, size: u64) -> Result<Change, Fail> {
+    Ok(Change::Locale {
+        tag: read_tag(alloc, tag)?,
+        place: record(alloc, decimal)?,
+        size,
+    })
+}
+
+/// The tags with the decimal separators of their records, in the order of their publications.
+type Records = &'static [(&'static str, &'static str)];
+
+/// The edition that records make of the empty one.
+fn with_records(alloc: Global, records: Records) -> Result<Edition, Fail> {
+    let mut edition = Edition::empty(alloc)?;
+    for (tag, decimal) in records {
+        let change = locale(alloc, tag, decimal, 64)?;
+        if edition.has_room(&change) {
+            edition = edition.next(&change)?;
+        }
+    }
+    Ok(edition)
+}
+
+/// The same edition, made in place.
+fn with_records_in_place(alloc: Global, records: Records) -> Result<Edition, Fail> {
+    let mut edition = Edition::empty(alloc)?;
+    for (tag, decimal) in records {
+        let change = locale(alloc, tag, decimal, 64)?;
+        if edition.has_room(&change) {
+            edition.advance(&change)?;
+        }
+    }
+    Ok(edition)
+}
+
+/// The decimal separators of the records that speak for tags.
+fn decimals(alloc: Global, edition: &Edition, tags: &[&str]) -> Result<String, Fail> {
+    let mut text = String::new(alloc);
+    for tag in tags {
+        let tag = read_tag(alloc, tag)?;
+        write!(text, "{}", edition.place_for(&tag).layout.decimal.as_str())?;
+    }
+    Ok(text)
+}
+
+#[test]
+fn a_tag_has_the_record_of_the_first_tag_of_its_chain(rt: HostRuntime) -> Result<(), Fail> {
+    let tags = ["en", "en-gb", "en-gb-oxendict", "de", "ens", "und"];
+    let rows: [(Records, &str); 5] = [
+        (&[], "......"),
+        (&[("en", "e")], "eee..."),
+        (&[("und", "u")], "uuuuuu"),
+        (&[("en-gb", "g"), ("und", "u")], "ugguuu"),
+        (
+            &[("en", "e"), ("de", "d"), ("en-gb", "g"), ("en", "f")],
+            "fggd..",
+        ),
+    ];
+    for (records, expected) in rows {
+        let edition = with_records(rt.alloc(), records)?;
+        assert_eq!(rt; decimals(rt.alloc(), &edition, &tags)?.as_str(), expected);
+        let edition = with_records_in_place(rt.alloc(), records)?;
+        assert_eq!(rt; decimals(rt.alloc(), &edition, &tags)?.as_str(), expected);
+    }
+    Ok(())
+}
+
+#[test]
+fn a_change_has_the_size_of_its_texts(rt: HostRuntime) -> Result<(), Fail> {
+    let rows: [(&str, Messages, u64); 4] = [
+        ("en", &[], 66),
+        ("en-GB", &[("a", "bc")], 72),
+        ("en", &[("", ""), ("\u{e9}", "\u{1f600}")], 72),
+        ("en", &[("a", "b"), ("a", "c")], 70),
+    ];
+    for (tag, messages, size) in rows {
+        assert_eq!(rt; catalogue(rt.alloc(), tag, messages)?.size(), size);
+    }
+    assert_eq!(rt; locale(rt.alloc(), "en", ",", 77)?.size(), 77);
+    Ok(())
+}
+
+fn entry(nth: u64, change: Change) -> Entry {
+    Entry {
+        caller: 7,
+        nth,
+        change,
+    }
+}
+
+fn full(used: u64, size: u64) -> Result<(), PublishError> {
+    Err(PublishError::StoreFull { used, size })
+}
+
+#[test]
+fn a_log_has_so_many_bytes(rt: HostRuntime) -> Result<(), Fail> {
+    let rows = [
+        (268_435_389, Ok(())),
+        (68, full(268_435_389, 68)),
+        (u64::MAX, full(268_435_389, u64::MAX)),
+        (67, Ok(())),
+        (67, full(268_435_456, 67)),
+    ];
+    let mut log = Log::new(rt.alloc());
+    for (size, expected) in rows {
+        let change = locale(rt.alloc(), "en", ",", size)?;
+        assert_eq!(rt; log.push(entry(1, change)), expected);
+    }
+    assert_eq!(rt; log.len(), 2);
+    assert_eq!(rt; log.used(), 268_435_456);
+    Ok(())
+}
+
+#[test]
+fn a_refused_publication_is_no_edition(rt: HostRuntime) -> Result<(), Fail> {
+    let mut log = Log::new(rt.alloc());
+    let mut newest = Edition::empty(rt.alloc())?;
+    for (size, expected) in [(268_435_390, Ok(())), (67, full(268_435_390, 67))] {
+        let entry = entry(1, locale(rt.alloc(), "en", ",", size)?);
+        if newest.has_room(&entry.change) {
+            assert_eq!(rt; log.publish(&mut newest, entry), expected);
+        }
+    }
+    assert_eq!(rt; newest.number(), 1);
+    Ok(())
+}
+
+#[test]
+fn a_log_has_so_many_entries(rt: HostRuntime) -> Result<(), Fail> {
+    let mut log = Log::new(rt.alloc());
+    for nth in 1..65_537 {
+        let change = catalogue(rt.alloc(), "en", &[])?;
+        assert_eq!(rt; log.push(entry(nth, change)), Ok(()));
+    }
+    let full = Err(PublishError::EditionsFull { entries: 65_536 });
+    let huge = locale(rt.alloc(), "en", ",", u64::MAX)?;
+    assert_eq!(rt; log.push(entry(65_537, huge)), full);
+    assert_eq!(rt; log.len(), 65_536);
+    assert_eq!(rt; log.used(), 65_536 * 66);
     Ok(())
 }

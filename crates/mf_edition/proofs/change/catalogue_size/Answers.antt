@@ -11,9 +11,9 @@ loop-message-preserved c =
     let name = c.byte_count-in-loop-message.ensures ∙ ap (λ (message : Pair). byte_count message.name) c.message-item.is in
     let value = c.byte_count-in-loop-message-2.ensures ∙ ap (λ (message : Pair). byte_count message.value) c.message-item.is in
     let named =
-        c.saturating_add-size-in-loop-message.ensures
-        ∙ ap (λ n. shown (c.loop-message.size + n)) name
-        ∙ ap (λ n. shown (n + byte_count here.name)) c.loop-message.invariant
+    c.saturating_add-size-in-loop-message.ensures
+    ∙ ap (λ n. shown (c.loop-message.size + n)) name
+    ∙ ap (λ n. shown (n + byte_count here.name)) c.loop-message.invariant
     in
     c.saturating_add-size-in-loop-message-2.ensures
     ∙ ap (λ n. shown (c.saturating_add-size-in-loop-message.result + n)) value

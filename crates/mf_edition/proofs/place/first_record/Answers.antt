@@ -1,5 +1,5 @@
 -- The first tag that has a record is looked for from the longest on.
-use Rattle.std.proofs.Common.{◌≡◌, ℕ, List, None, Some, ◌∷◌, take, ap, sym, ◌∙◌, lit<, arith}
+use Rattle.std.proofs.Common.{◌≡◌, ℕ, List, None, Some, take, ap, sym, ◌∙◌, lit<, arith}
 use Rattle.std.proofs.lemmas.Str.Pattern.{rfind_char}
 use Rattle.std.specs.List.{slice_range}
 use Rattle.std.specs.Option.{option_or}
@@ -28,12 +28,13 @@ loop-hyphen-preserved c =
     let places = place_values c.args.places.now in
     let rest = c.loop-hyphen.rest.now in
     let place = rfind_char 45 rest (Some c.in-Some.hyphen) c.in-Some.ensures.cases (lit< tt) in
-    let cut : IsLastHyphen rest c.in-Some.hyphen = record { inside = place.0; hyphen = place.1; last = place.2 } in
-    (c.range-rest.utf8,
-    ap (λ t. first_record places (truncations t)) (c.range-rest.ensures.value ∙ range_is rest c.in-Some.hyphen)
-    ∙ ap (λ o. option_or o (first_record places (truncations (take c.in-Some.hyphen rest)))) c.in_default-record_of.ensures
-    ∙ ap (first_record places) (sym (truncations_at rest c.in-Some.hyphen cut))
-    ∙ c.loop-hyphen.invariant.1)
+    let cut : IsLastHyphen rest c.in-Some.hyphen = record { inside = place.0; hyphen = place.1; last = place.2 } in (
+      c.range-rest.utf8,
+      ap (λ t. first_record places (truncations t)) (c.range-rest.ensures.value ∙ range_is rest c.in-Some.hyphen)
+          ∙ ap (λ o. option_or o (first_record places (truncations (take c.in-Some.hyphen rest)))) c.in_default-record_of.ensures
+          ∙ ap (first_record places) (sym (truncations_at rest c.in-Some.hyphen cut))
+          ∙ c.loop-hyphen.invariant.1,
+    )
 
 pub returns : goal.returns
 returns c =

@@ -1,5 +1,5 @@
 -- After the truncations of the tag comes `und`.
-use Rattle.std.proofs.Common.{◌≡◌, ap, sym, ◌∙◌, encode_utf8_all}
+use Rattle.std.proofs.Common.{ap, sym, ◌∙◌, encode_utf8_all}
 use Rattle.std.specs.Option.{option_or, unwrap_or}
 use Rattle.mf_locale.proofs.Truncations.{encode-IsLowerTag}
 use Rattle.mf_locale.specs.Chain.{truncations, und}

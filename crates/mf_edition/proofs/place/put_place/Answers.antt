@@ -1,5 +1,4 @@
 use Rattle.std.proofs.Common.{◌-◌, ◌≡◌, set, ap, ◌∙◌, sym, arith}
-use Rattle.std.specs.Arc.{arc_value}
 use Rattle.mf_edition.specs.Views.{place_values}
 use Rattle.mf_edition.proofs.Places.{position_inside, put_found, put_missing, same_position}
 use Rattle.mf_edition.proofs.place.put_place.Goals as goal

@@ -24,11 +24,13 @@ put_all_in_place-requires-clause-few c =
 
 pub invariant_of-self-2 : goal.invariant_of-self-2
 invariant_of-self-2 c =
-    let items = c.put_all_in_place.ensures.items ∙ made (goal.at.invariant_of-self-2 c).In_ok-reserve in
-    (record {
-      few = subst (λ n. n < 2 ^ 32) (length-map c.put_all_in_place.new.items.items arc_value) (subst (λ its. length its < 2 ^ 32) (sym items) c.requires);
-      ordered = c.put_all_in_place.ensures.order;
-    }, c.self.invariant.1)
+    let items = c.put_all_in_place.ensures.items ∙ made (goal.at.invariant_of-self-2 c).In_ok-reserve in (
+      record {
+        few = subst (λ n. n < 2 ^ 32) (length-map c.put_all_in_place.new.items.items arc_value) (subst (λ its. length its < 2 ^ 32) (sym items) c.requires);
+        ordered = c.put_all_in_place.ensures.order;
+      },
+      c.self.invariant.1,
+    )
 
 pub returns-clause-items : goal.returns-clause-items
 returns-clause-items c = c.put_all_in_place.ensures.items ∙ made (goal.at.returns-clause-items c).In_ok-reserve

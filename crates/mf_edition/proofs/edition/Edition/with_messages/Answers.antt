@@ -27,11 +27,13 @@ put_messages-requires-clause-room c = subst (λ items. length items < 2 ^ 32) (s
 
 pub invariant_of-result : goal.invariant_of-result
 invariant_of-result c =
-    let items = c.in_ok-order.ensures.items ∙ made (goal.at.invariant_of-result c).In_ok-items in
-    (record {
-      few = subst (λ n. n < 2 ^ 32) (length-map c.put_messages.new.items.items arc_value) (subst (λ its. length its < 2 ^ 32) (sym items) c.requires.few);
-      ordered = c.in_ok-order.ensures.order;
-    }, c.in_ok-clone-2.ensures.cases ∙ c.self.invariant.1)
+    let items = c.in_ok-order.ensures.items ∙ made (goal.at.invariant_of-result c).In_ok-items in (
+      record {
+        few = subst (λ n. n < 2 ^ 32) (length-map c.put_messages.new.items.items arc_value) (subst (λ its. length its < 2 ^ 32) (sym items) c.requires.few);
+        ordered = c.in_ok-order.ensures.order;
+      },
+      c.in_ok-clone-2.ensures.cases ∙ c.self.invariant.1,
+    )
 
 pub returns-clause-items : goal.returns-clause-items
 returns-clause-items c = c.in_ok-order.ensures.items ∙ made (goal.at.returns-clause-items c).In_ok-items

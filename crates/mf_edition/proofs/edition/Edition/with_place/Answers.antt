@@ -1,5 +1,5 @@
 -- The copies share what the edition before has.
-use Rattle.std.proofs.Common.{◌≡◌, ◌<◌, ◌^◌, length, map, ap, sym, ◌∙◌, subst, arith}
+use Rattle.std.proofs.Common.{length, ap, sym, ◌∙◌, subst, arith}
 use Rattle.std.proofs.lemmas.List.{length-map}
 use Rattle.std.specs.Arc.{arc_value}
 use Rattle.std.specs.List.{each_same}
@@ -16,13 +16,15 @@ invariant_of-result c =
     let count = length-map c.in_ok-clone.field-0.items arc_value in
     let before = length-map c.self.inside.items.items arc_value in
     let same = ap length items in
-    let few = c.self.invariant.0.few in
-    (record {
-      few = omega arith;
-      ordered =
-          subst (λ os. IsOrder (names_of (item_values c.in_ok-clone.field-0.items)) os) (sym order)
-          (subst (λ its. IsOrder (names_of its) c.self.inside.order.items) (sym items) c.self.invariant.0.ordered);
-    }, c.in_ok-clone-3.ensures.cases ∙ c.self.invariant.1)
+    let few = c.self.invariant.0.few in (
+      record {
+        few = omega arith;
+        ordered =
+            subst (λ os. IsOrder (names_of (item_values c.in_ok-clone.field-0.items)) os) (sym order)
+            (subst (λ its. IsOrder (names_of its) c.self.inside.order.items) (sym items) c.self.invariant.0.ordered);
+      },
+      c.in_ok-clone-3.ensures.cases ∙ c.self.invariant.1,
+    )
 
 pub returns-clause-items : goal.returns-clause-items
 returns-clause-items c = values_shared _ _ c.in_ok-clone.ensures.cases.0 ∙ ap (λ edition. edition.items) c.self.view_is
