@@ -11,6 +11,7 @@ mod lookup;
 mod reading;
 mod record;
 mod shape;
+mod shared;
 mod size;
 mod tag;
 
@@ -20,6 +21,7 @@ pub use field::RecordField;
 pub use lookup::{Tags, chain};
 pub use reading::read_record;
 pub use record::LocaleRecord;
+pub use shared::SharedRecord;
 pub use tag::{Tag, read_tag};
 
 #[cfg(test)]

@@ -251,3 +251,14 @@ fn errors_name_the_field(rt: HostRuntime) -> Result<(), Fail> {
     }
     Ok(())
 }
+
+#[test]
+fn a_shared_record_is_the_record(rt: HostRuntime) -> Result<(), Fail> {
+    let shared = SharedRecord::new(rt.alloc(), root(rt.alloc())?)?;
+    let other = shared.clone()?;
+    for owner in [&shared, &other] {
+        assert_eq!(rt; owner.as_record().layout.primary, 3);
+        assert_eq!(rt; owner.as_record().layout.decimal.as_str(), ".");
+    }
+    Ok(())
+}
