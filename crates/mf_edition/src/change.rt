@@ -1,7 +1,7 @@
 ghost use Rattle.std.specs.Prelude.{◌≡◌, ◌+◌};
 ghost use Rattle.mf_edition.specs.Sizes.{byte_count, messages_size, shown};
 
-use mf_locale::{LocaleRecord, Tag};
+use mf_locale::{SharedRecord, Tag};
 use mf_text::{Pair, Pairs, Text};
 
 /// The bytes that each change counts for beside its texts.
@@ -19,7 +19,7 @@ pub enum Change {
     /// from.
     Locale {
         tag: Tag,
-        place: LocaleRecord,
+        place: SharedRecord,
         size: u64,
     },
 }

@@ -10,7 +10,7 @@ use crate::order::{place_of, put_messages};
 use crate::place::{place_for, put_place, shared_place};
 use crate::publication::sources_by_id;
 use crate::{Change, Item, Place};
-use mf_locale::{LocaleRecord, Tag, root};
+use mf_locale::{LocaleRecord, SharedRecord, Tag, root};
 use mf_text::{Pair, Text};
 use std::alloc::{AllocError, Global};
 use std::marker::Model;
@@ -92,7 +92,7 @@ impl Edition {
     }
 
     /// The edition after a publication of a record.
-    fn with_place(&self, tag: &Tag, place: &LocaleRecord) -> Result<Edition, AllocError>
+    fn with_place(&self, tag: &Tag, place: &SharedRecord) -> Result<Edition, AllocError>
         requires { self.now.number + 1 < 2 ^ 64 }
         ensures number { IfOk result (λ edition. edition.number ≡ self.now.number + 1) }
         ensures items { IfOk result (λ edition. edition.items ≡ self.now.items) }
@@ -155,7 +155,7 @@ impl Edition {
     }
 
     /// Takes in the record of a tag.
-    fn put_place(&mut self, tag: &Tag, place: &LocaleRecord) -> Result<(), AllocError>
+    fn put_place(&mut self, tag: &Tag, place: &SharedRecord) -> Result<(), AllocError>
         ensures number { self.new.number ≡ self.old.number }
         ensures items { self.new.items ≡ self.old.items }
         ensures places { let new : Named = record { tag = tag.now; place = place.now } in

@@ -7,7 +7,7 @@ ghost use Rattle.mf_locale.specs.Records.{root_record};
 ghost use Rattle.mf_edition.specs.Places.{first_record, is_for, place_for, put_place, record_of};
 ghost use Rattle.mf_edition.specs.Views.{place_values};
 
-use mf_locale::{LocaleRecord, Tag};
+use mf_locale::{LocaleRecord, SharedRecord, Tag};
 use std::alloc::{AllocError, Global};
 use std::sync::Arc;
 
@@ -15,14 +15,14 @@ use std::sync::Arc;
 #[derive(Debug, Drop)]
 pub struct Place {
     pub tag: Tag,
-    pub place: LocaleRecord,
+    pub place: SharedRecord,
 }
 
-/// A record of a tag that editions may share.
+/// The record of a tag, as editions share it. The record itself isn't copied.
 pub fn shared_place(
     alloc: Global,
     tag: &Tag,
-    place: &LocaleRecord,
+    place: &SharedRecord,
 ) -> Result<Arc<Place>, AllocError>
     ensures { IfOk result (λ shared. arc_value shared ≡ record { tag = tag.now; place = place.now }) }
 {
@@ -65,7 +65,7 @@ fn record_of<'a>(places: &'a [Arc<Place>], tag: &str) -> Option<&'a LocaleRecord
 {
     for place in places {
         if place.tag.as_text().as_str() == tag {
-            return Some(&place.place);
+            return Some(place.place.as_record());
         }
     }
     None

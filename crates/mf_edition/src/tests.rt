@@ -1,5 +1,5 @@
 use super::*;
-use mf_locale::{LocaleRecord, read_tag};
+use mf_locale::{LocaleRecord, SharedRecord, read_tag};
 use mf_numfmt::Layout;
 use mf_plural::Rules;
 use mf_text::{Direction, Pair, Pairs, Text};
@@ -191,7 +191,7 @@ fn record(alloc: Global, decimal: &str) -> Result<LocaleRecord, Fail> {
 fn locale(alloc: Global, tag: &str, decimal: &str, size: u64) -> Result<Change, Fail> {
     Ok(Change::Locale {
         tag: read_tag(alloc, tag)?,
-        place: record(alloc, decimal)?,
+        place: SharedRecord::new(alloc, record(alloc, decimal)?)?,
         size,
     })
 }

@@ -10,7 +10,7 @@ use crate::fields::{
 use crate::reading::{WireError, read_value};
 use crate::size::record_size;
 use mf_edition::Change;
-use mf_locale::{LocaleError, Tag, read_record};
+use mf_locale::{LocaleError, SharedRecord, Tag, read_record};
 use mf_text::{Arguments, Text};
 use serde_json::Value;
 use std::alloc::Global;
@@ -117,7 +117,10 @@ fn locale_record(alloc: Global, tag: Tag, given: &Value) -> Result<Request, Wire
 {
     let size = record_size(&tag, given);
     match read_record(alloc, given) {
-        Ok(place) => Ok(Request::Publish(Change::Locale { tag, place, size })),
+        Ok(place) => {
+            let place = SharedRecord::new(alloc, place)?;
+            Ok(Request::Publish(Change::Locale { tag, place, size }))
+        }
         Err(LocaleError::BadField { field }) => Err(WireError::BadLocale { field, rule: None }),
         Err(LocaleError::BadRule { field, rule }) => Err(WireError::BadLocale {
             field,

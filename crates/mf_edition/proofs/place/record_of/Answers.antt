@@ -11,7 +11,8 @@ returns-then-eq c =
     c.as_text.ensures.tag c.as_text.ensures.text c.deref.ensures
     ∙ c.if-eq.true
     in
-    ap (λ (p : Place). Some p.place) c.deref-then-eq.ensures
+    ap Some c.as_record.ensures
+    ∙ ap (λ (p : Place). Some p.place) c.deref-then-eq.ensures
     ∙ sym (record_at c.args.places.now c.loop-place.place-index c.place-item.result c.args.tag.now true c.loop-place-test.true c.place-item.is test)
     ∙ c.loop-place.invariant
 
