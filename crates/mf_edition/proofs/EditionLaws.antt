@@ -1,7 +1,6 @@
 -- What is so of every edition of every log.
-use Rattle.std.proofs.Common.{◌≡◌, ◌==◌, ◌+◌, ℕ, Bool, true, false, List, [], ◌∷◌, ◌++◌, length, take, cond, refl, ap, sym, ◌∙◌, arith, length-append, length-take, take_all}
+use Rattle.std.proofs.Common.{◌≡◌, ◌+◌, ℕ, Bool, true, false, List, [], ◌∷◌, ◌++◌, length, take, cond, refl, ap, sym, ◌∙◌, arith, length-append, length-take, take_all}
 use Rattle.std.proofs.lemmas.List.{take-append-le}
-use Rattle.std.specs.Cmp.Lexicographic.{pointwise}
 use Rattle.std.specs.List.{AllByRecursion, IsDistinct}
 use Rattle.mf_text.specs.declared.pair.Pair.{Pair}
 use Rattle.mf_edition.specs.declared.change.Change.{Change}
@@ -9,11 +8,12 @@ use Rattle.mf_edition.specs.declared.change.Change.TheVariants.{Catalogue, Local
 use Rattle.mf_edition.specs.declared.change.Entry.{Entry}
 use Rattle.mf_edition.specs.declared.item.Item.{Item}
 use Rattle.mf_edition.specs.declared.place.Place.{Place}
-use Rattle.mf_edition.specs.Edition.{changed, edition_after, empty_edition, is_named, is_same_name, next_edition, placed, put, put_all, ChangesAreBounded, EditionState, EditionsAreNumbered, EditionsFollow, EditionsHaveDistinctNames, EditionsHaveDistinctTags, EditionsStay, HasDistinctNames, HasDistinctTags}
+use Rattle.mf_edition.specs.Edition.{changed, edition_after, empty_edition, edition_of, is_named, is_same_name, next_edition, placed, put, put_all, ChangesAreBounded, EditionState, EditionsAreNumbered, EditionsFollow, EditionsHaveDistinctNames, EditionsHaveDistinctTags, EditionsStay, HasDistinctNames}
 use Rattle.mf_edition.specs.Messages.{in_byte_order}
 use Rattle.mf_edition.specs.Order.{name_of, names_of, Name}
-use Rattle.mf_edition.specs.Places.{is_for, put_place}
+use Rattle.mf_edition.specs.Places.{AreAscending}
 use Rattle.mf_edition.proofs.Growth.{length-changed}
+use Rattle.mf_edition.proofs.PlacesAscend.{ascending_none, AreAscending-put_place, HasDistinctTags-ascending}
 
 -- a name that none of the items has
 Lacks : Name → List Item → Type 0
@@ -53,38 +53,16 @@ pub distinct_names : EditionsHaveDistinctNames
 unfolding IsDistinct
 distinct_names log k = HasDistinctNames-after empty_edition (take k log) tt
 
--- a tag that none of the records is of
-Untold : List ℕ → List Place → Type 0
-Untold tag places = AllByRecursion (λ other. pointwise ◌==◌ tag other.tag ≡ false) places
+AreAscending-placed : (places : List Place) (change : Change) → AreAscending places → AreAscending (placed places change)
+AreAscending-placed places (Catalogue tag messages) up = up
+AreAscending-placed places (Locale tag place size) up = AreAscending-put_place places (record { tag = tag; place = place }) up
 
-Untold-put_place : (tag : List ℕ) (places : List Place) (new : Place) → Untold tag places → pointwise ◌==◌ tag new.tag ≡ false → Untold tag (put_place places new)
-unfolding Untold
-Untold-put_place tag [] new none other = (other, tt)
-Untold-put_place tag (place ∷ places) new none other =
-    elim (is_for new.tag place) as (λ b. AllByRecursion (λ other. pointwise ◌==◌ tag other.tag ≡ false) (cond b (record place { place = new.place } ∷ places) (place ∷ put_place places new)))
-    [ true ↦ (none.0, none.1) | false ↦ (none.0, Untold-put_place tag places new none.1 other) ]
-
-HasDistinctTags-put_place : (places : List Place) (new : Place) → HasDistinctTags places → HasDistinctTags (put_place places new)
-unfolding IsDistinct Untold
-HasDistinctTags-put_place [] new distinct = (tt, tt)
-HasDistinctTags-put_place (place ∷ places) new distinct = by (is_for new.tag place) refl (HasDistinctTags-put_place places new distinct.1)
-  where
-    by : (b : Bool) → is_for new.tag place ≡ b → HasDistinctTags (put_place places new) → HasDistinctTags (cond b (record place { place = new.place } ∷ places) (place ∷ put_place places new))
-    by true same rest = (distinct.0, distinct.1)
-    by false other rest = (Untold-put_place place.tag places new distinct.0 other, rest)
-
-HasDistinctTags-placed : (places : List Place) (change : Change) → HasDistinctTags places → HasDistinctTags (placed places change)
-HasDistinctTags-placed places (Catalogue tag messages) distinct = distinct
-HasDistinctTags-placed places (Locale tag place size) distinct = HasDistinctTags-put_place places (record { tag = tag; place = place }) distinct
-
-HasDistinctTags-after : (edition : EditionState) (entries : List Entry) → HasDistinctTags edition.places → HasDistinctTags (edition_after edition entries).places
-HasDistinctTags-after edition [] distinct = distinct
-HasDistinctTags-after edition (entry ∷ entries) distinct =
-    HasDistinctTags-after (next_edition edition entry.change) entries (HasDistinctTags-placed edition.places entry.change distinct)
+AreAscending-after : (edition : EditionState) (entries : List Entry) → AreAscending edition.places → AreAscending (edition_after edition entries).places
+AreAscending-after edition [] up = up
+AreAscending-after edition (entry ∷ entries) up = AreAscending-after (next_edition edition entry.change) entries (AreAscending-placed edition.places entry.change up)
 
 pub distinct_tags : EditionsHaveDistinctTags
-unfolding IsDistinct
-distinct_tags log k = HasDistinctTags-after empty_edition (take k log) tt
+distinct_tags log k = HasDistinctTags-ascending (edition_of log k).places (AreAscending-after empty_edition (take k log) ascending_none)
 
 number_after : (edition : EditionState) (entries : List Entry) → (edition_after edition entries).number ≡ edition.number + length entries
 number_after edition [] = omega arith

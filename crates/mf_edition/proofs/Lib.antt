@@ -7,4 +7,6 @@ pub mod EditionLaws
 pub mod Merged
 pub mod InPlace
 pub mod Places
+pub mod PlaceSearch
+pub mod PlacesAscend
 pub mod Sized

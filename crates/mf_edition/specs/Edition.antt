@@ -11,7 +11,7 @@ use Rattle.mf_edition.specs.declared.place.Place.{Place}
 use Rattle.mf_edition.specs.Messages.{in_byte_order}
 use Rattle.mf_edition.specs.Places.{is_for, put_place}
 
--- what an edition is: its number, its messages in the order of their places, and the records of tags
+-- what an edition is: its number, its messages in the order of their places, and the records of tags in the order of the tags
 pub record EditionState : Type 0 where
   pub number : ℕ
   pub items : List Item

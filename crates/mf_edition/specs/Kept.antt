@@ -9,16 +9,18 @@ use Rattle.mf_edition.specs.declared.item.Item.{Item}
 use Rattle.mf_edition.specs.declared.place.Place.{Place}
 use Rattle.mf_edition.specs.Edition.{EditionState}
 use Rattle.mf_edition.specs.Order.{names_of, IsOrder}
+use Rattle.mf_edition.specs.Places.{AreAscending}
 use Rattle.mf_edition.specs.Views.{item_values, place_values}
 
 -- what callers see
 abbrev pub state_of : ℕ → List (Arc Item Global) → List (Arc Place Global) → EditionState
 state_of number items places = record { number = number; items = item_values items; places = place_values places }
 
--- there are numbers for the messages, and each is in the order
-pub record IsKept (items : List (Arc Item Global)) (order : List ℕ) : Type 0 where
+-- there are numbers for the messages, each is in the order, and the records are in that of their tags
+pub record IsKept (items : List (Arc Item Global)) (order : List ℕ) (places : List (Arc Place Global)) : Type 0 where
   pub few : length items < 2 ^ 32
   pub ordered : IsOrder (names_of (item_values items)) order
+  pub ascending : AreAscending (place_values places)
 
 -- the shared record is the root record
 abbrev pub IsRoot : Arc LocaleRecord Global → Type 0

@@ -1,7 +1,10 @@
 -- The locale records of an edition, and the one that speaks for a tag.
 use Rattle.std.specs.Prelude.{◌==◌, ℕ, Bool, Option, None, Some, List, [], ◌∷◌, if◌then◌else◌}
-use Rattle.std.specs.Cmp.Lexicographic.{pointwise}
+use Rattle.std.specs.Cmp.Lexicographic.{pointwise, slice_cmp}
+use Rattle.std.specs.List.Sorted.{IsStrictlySortedBy}
 use Rattle.std.specs.Option.{option_or, unwrap_or}
+use Rattle.std.specs.Ordering.{match_ordering, nat_cmp}
+use Rattle.std.specs.declared.cmp.Ordering.{Ordering}
 use Rattle.mf_locale.specs.Chain.{chain_of}
 use Rattle.mf_locale.specs.Records.{root_record}
 use Rattle.mf_locale.specs.declared.record.LocaleRecord.{LocaleRecord}
@@ -11,11 +14,19 @@ use Rattle.mf_edition.specs.declared.place.Place.{Place}
 abbrev pub is_for : List ℕ → Place → Bool
 is_for tag place = pointwise ◌==◌ place.tag tag
 
--- puts the record of a tag into the list of records: a tag that is there keeps its place and gets the new record, a new one goes to the end
+-- tags are compared by their characters, which are ASCII and so their bytes
+abbrev pub tag_cmp : List ℕ → List ℕ → Ordering
+tag_cmp a b = slice_cmp nat_cmp a b
+
+-- puts the record of a tag into the list of records, which are in the order of their tags: it takes the place of that of its tag, or goes before that of the next higher tag
 abbrev pub put_place : List Place → Place → List Place
 put_place [] new = new ∷ []
 put_place (place ∷ places) new =
-    if is_for new.tag place then (record place { place = new.place } ∷ places) else (place ∷ put_place places new)
+    match_ordering (tag_cmp new.tag place.tag) (new ∷ place ∷ places) (new ∷ places) (place ∷ put_place places new)
+
+-- the records are in the order of their tags, each tag once
+abbrev pub AreAscending : List Place → Type 0
+AreAscending places = IsStrictlySortedBy (λ a b. tag_cmp a.tag b.tag) places
 
 -- the record of a tag, if it has one
 abbrev pub record_of : List Place → List ℕ → Option LocaleRecord

@@ -20,7 +20,7 @@ use std::sync::Arc;
 const TOO_MANY: usize = 1 << 32;
 
 /// The messages and the locale records after so many changes, seen as the number of changes, the list of the messages
-/// and the list of the records with their tags.
+/// and the list of the records with their tags, in the order of the tags.
 #[derive(Debug, Drop)]
 pub struct Edition {
     alloc: Global,
@@ -39,7 +39,7 @@ impl Model for Edition {
 
     ghost view = { λ e. state_of e.number e.items.items e.places.items };
 
-    ghost invariant = { λ e. IsKept e.items.items e.order.items × IsRoot e.root };
+    ghost invariant = { λ e. IsKept e.items.items e.order.items e.places.items × IsRoot e.root };
 }
 
 impl Edition {

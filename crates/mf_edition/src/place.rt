@@ -1,14 +1,15 @@
-ghost use Rattle.std.specs.Prelude.{◌≡◌, IfOk, OnErr, OnOk};
+ghost use Rattle.std.specs.Prelude.{◌≡◌, IfOk, MatchResult, OnErr, OnOk};
 ghost use Rattle.std.specs.Arc.{arc_value};
-ghost use Rattle.std.specs.List.{position_from};
 ghost use Rattle.std.specs.Option.{option_copied};
 ghost use Rattle.mf_locale.specs.Chain.{truncations};
 ghost use Rattle.mf_locale.specs.Records.{root_record};
-ghost use Rattle.mf_edition.specs.Places.{first_record, is_for, place_for, put_place, record_of};
+ghost use Rattle.mf_edition.specs.PlaceOrder.{IsRecordAt, IsRecordGap};
+ghost use Rattle.mf_edition.specs.Places.{first_record, place_for, put_place, record_of, tag_cmp, AreAscending};
 ghost use Rattle.mf_edition.specs.Views.{place_values};
 
 use mf_locale::{LocaleRecord, SharedRecord, Tag};
 use std::alloc::{AllocError, Global};
+use std::cmp::Ordering;
 use std::sync::Arc;
 
 /// The record of a tag.
@@ -34,45 +35,50 @@ pub fn shared_place(
     Ok(shared)
 }
 
-/// Puts a record in: that of a tag that is there takes its place, and another goes to the end. After an error all is
-/// as it was.
+/// Puts a record in: it takes the place of that of its tag, or goes before that of the next higher tag. After an error
+/// all is as it was.
 pub fn put_place(places: &mut Vec<Arc<Place>>, new: Arc<Place>) -> Result<(), AllocError>
+    requires { AreAscending (place_values places.old.items) }
     ensures ok { OnOk result (place_values places.new.items ≡ put_place (place_values places.old.items) (arc_value new)) }
+    ensures ascending { AreAscending (place_values places.new.items) }
     ensures err { OnErr result (places.new.items ≡ places.old.items) }
 {
-    match place_of(places, &new.tag) {
-        Some(at) => places[at] = new,
-        None => places.push(new)?,
+    match search(places, new.tag.as_text().as_str()) {
+        Ok(at) => places[at] = new,
+        Err(at) => places.insert(at, new)?,
     }
     Ok(())
 }
 
-/// The place of the record of a tag, if it has one.
-fn place_of(places: &[Arc<Place>], tag: &Tag) -> Option<usize>
-    ensures { result ≡ position_from (is_for tag.now) 0 (place_values places.now) }
+/// Where the record of the tag that this text is stands, or where it would have to stand.
+fn search(places: &[Arc<Place>], tag: &str) -> Result<usize, usize>
+    requires { AreAscending (place_values places.now) }
+    ensures { MatchResult result (λ at. IsRecordAt places.now tag.now at) (λ at. IsRecordGap places.now tag.now at) }
 {
-    for at in 0..places.len() {
-        if places[at].tag == *tag {
-            return Some(at);
-        }
-    }
-    None
+    places.binary_search_by(|place| compare_tag(place, tag))
+}
+
+/// How the tag of a record compares with a text.
+fn compare_tag(place: &Place, tag: &str) -> Ordering
+    ensures { result ≡ tag_cmp place.now.tag tag.now }
+{
+    place.tag.as_text().as_str().cmp(tag)
 }
 
 /// The record of the tag that this text is, if it has one.
 fn record_of<'a>(places: &'a [Arc<Place>], tag: &str) -> Option<&'a LocaleRecord>
+    requires { AreAscending (place_values places.now) }
     ensures { option_copied result ≡ record_of (place_values places.now) tag.now }
 {
-    for place in places {
-        if place.tag.as_text().as_str() == tag {
-            return Some(place.place.as_record());
-        }
+    match search(places, tag) {
+        Ok(at) => Some(places[at].place.as_record()),
+        Err(_) => None,
     }
-    None
 }
 
 /// The record of the first that has one: the tag that this text is, the tag with its last subtag dropped, and so on.
 fn first_record<'a>(places: &'a [Arc<Place>], tag: &str) -> Option<&'a LocaleRecord>
+    requires { AreAscending (place_values places.now) }
     ensures { option_copied result ≡ first_record (place_values places.now) (truncations tag.now) }
 {
     let mut rest = tag;
@@ -91,7 +97,8 @@ pub fn place_for<'a>(
     root: &'a LocaleRecord,
     tag: &Tag,
 ) -> &'a LocaleRecord
-    requires { root.now ≡ root_record }
+    requires root { root.now ≡ root_record }
+    requires ascending { AreAscending (place_values places.now) }
     ensures { result.now ≡ place_for (place_values places.now) tag.now }
 {
     if let Some(found) = first_record(places, tag.as_text().as_str()) {

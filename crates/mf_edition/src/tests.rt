@@ -236,7 +236,7 @@ fn decimals(alloc: Global, edition: &Edition, tags: &[&str]) -> Result<String, F
 #[test]
 fn a_tag_has_the_record_of_the_first_tag_of_its_chain(rt: HostRuntime) -> Result<(), Fail> {
     let tags = ["en", "en-gb", "en-gb-oxendict", "de", "ens", "und"];
-    let rows: [(Records, &str); 5] = [
+    let rows: [(Records, &str); 6] = [
         (&[], "......"),
         (&[("en", "e")], "eee..."),
         (&[("und", "u")], "uuuuuu"),
@@ -244,6 +244,17 @@ fn a_tag_has_the_record_of_the_first_tag_of_its_chain(rt: HostRuntime) -> Result
         (
             &[("en", "e"), ("de", "d"), ("en-gb", "g"), ("en", "f")],
             "fggd..",
+        ),
+        (
+            &[
+                ("und", "u"),
+                ("ens", "s"),
+                ("en-gb", "g"),
+                ("de", "d"),
+                ("en", "e"),
+                ("de", "f"),
+            ],
+            "eggfsu",
         ),
     ];
     for (records, expected) in rows {

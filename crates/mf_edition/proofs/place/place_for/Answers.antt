@@ -23,6 +23,6 @@ returns c =
     ap (λ r. r.now) c.unwrap_or.ensures
     ∙ unwrap_copied c.record_of.result c.args.root
     ∙ ap (λ o. unwrap_or o c.args.root.now) c.record_of.ensures
-    ∙ ap (unwrap_or (record_of places und)) c.requires
+    ∙ ap (unwrap_or (record_of places und)) c.requires.root
     ∙ ap (λ o. unwrap_or (option_or o (record_of places und)) root_record) (c.in_default.ensures ∙ ap (λ t. first_record places (truncations t)) tag)
     ∙ ap (λ o. unwrap_or o root_record) (sym (first_record_und places (truncations c.args.tag.now)))

@@ -1,27 +1,17 @@
-use Rattle.std.proofs.Common.{true, false, Some, ap, sym, ◌∙◌}
+use Rattle.std.proofs.Common.{Some, ap, sym, ◌∙◌}
 use Rattle.std.specs.Arc.{arc_value}
+use Rattle.std.specs.declared.alloc.Global.{Global}
+use Rattle.std.specs.declared.sync.Arc.{Arc}
 use Rattle.mf_edition.specs.declared.place.Place.{Place}
-use Rattle.mf_edition.proofs.Places.{record_at, same_test}
+use Rattle.mf_edition.proofs.PlaceSearch.{record_found, record_missing}
 use Rattle.mf_edition.proofs.place.record_of.Goals as goal
 
-pub returns-then-eq : goal.returns-then-eq
-returns-then-eq c =
-    let test =
-    same_test c.args.tag.now c.as_str.result.now c.as_text.result.now c.deref.result.now (arc_value c.place-item.result) c.eq.result c.eq.ensures c.as_str.ensures.bytes
-    c.as_text.ensures.tag c.as_text.ensures.text c.deref.ensures
-    ∙ c.if-eq.true
-    in
+pub returns-in-Ok : goal.returns-in-Ok
+returns-in-Ok c =
     ap Some c.as_record.ensures
-    ∙ ap (λ (p : Place). Some p.place) c.deref-then-eq.ensures
-    ∙ sym (record_at c.args.places.now c.loop-place.place-index c.place-item.result c.args.tag.now true c.loop-place-test.true c.place-item.is test)
-    ∙ c.loop-place.invariant
+    ∙ ap (λ (place : Place). Some place.place) c.deref.ensures
+    ∙ ap (λ (place : Arc Place Global). Some (arc_value place).place) c.index-places-at.is
+    ∙ sym (record_found c.args.places.now c.args.tag.now c.in-Ok.at c.index-places-at.result c.in-Ok.ensures)
 
-pub loop-place-preserved : goal.loop-place-preserved
-loop-place-preserved c =
-    let test =
-    same_test c.args.tag.now c.as_str.result.now c.as_text.result.now c.deref.result.now (arc_value c.place-item.result) c.eq.result c.eq.ensures c.as_str.ensures.bytes
-    c.as_text.ensures.tag c.as_text.ensures.text c.deref.ensures
-    ∙ c.if-eq.false
-    in
-    sym (record_at c.args.places.now c.loop-place.place-index c.place-item.result c.args.tag.now false c.loop-place-test.true c.place-item.is test)
-    ∙ c.loop-place.invariant
+pub returns-in-Err : goal.returns-in-Err
+returns-in-Err c = sym (record_missing c.args.places.now c.args.tag.now c.in-Err.field-0 c.in-Err.ensures)

@@ -5,6 +5,7 @@ use Rattle.std.specs.Arc.{arc_value}
 use Rattle.mf_edition.specs.Edition.{put_all}
 use Rattle.mf_edition.specs.Messages.{in_byte_order}
 use Rattle.mf_edition.specs.Order.{names_of, IsOrder}
+use Rattle.mf_edition.specs.Places.{AreAscending}
 use Rattle.mf_edition.specs.Views.{entry_pair, item_values}
 use Rattle.mf_edition.proofs.Growth.{values_shared}
 use Rattle.mf_edition.proofs.edition.Edition.with_messages.Goals as goal
@@ -31,6 +32,7 @@ invariant_of-result c =
       record {
         few = subst (λ n. n < 2 ^ 32) (length-map c.put_messages.new.items.items arc_value) (subst (λ its. length its < 2 ^ 32) (sym items) c.requires.few);
         ordered = c.in_ok-order.ensures.order;
+        ascending = subst AreAscending (sym (values_shared _ _ c.in_ok-clone.ensures.cases.0)) c.self.invariant.0.ascending;
       },
       c.in_ok-clone-2.ensures.cases ∙ c.self.invariant.1,
     )

@@ -4,10 +4,13 @@ use Rattle.std.proofs.lemmas.List.{length-map}
 use Rattle.std.specs.Arc.{arc_value}
 use Rattle.std.specs.List.{each_same}
 use Rattle.mf_edition.specs.Order.{names_of, IsOrder}
-use Rattle.mf_edition.specs.Places.{put_place}
+use Rattle.mf_edition.specs.Places.{put_place, AreAscending}
 use Rattle.mf_edition.specs.Views.{item_values}
 use Rattle.mf_edition.proofs.Growth.{values_shared}
 use Rattle.mf_edition.proofs.edition.Edition.with_place.Goals as goal
+
+pub put_place-requires : goal.put_place-requires
+put_place-requires c = subst AreAscending (sym (values_shared _ _ c.in_ok-places.ensures.cases.0)) c.self.invariant.0.ascending
 
 pub invariant_of-result : goal.invariant_of-result
 invariant_of-result c =
@@ -22,6 +25,7 @@ invariant_of-result c =
         ordered =
             subst (λ os. IsOrder (names_of (item_values c.in_ok-clone.field-0.items)) os) (sym order)
             (subst (λ its. IsOrder (names_of its) c.self.inside.order.items) (sym items) c.self.invariant.0.ordered);
+        ascending = c.in_ok-put_place.ensures.ascending;
       },
       c.in_ok-clone-3.ensures.cases ∙ c.self.invariant.1,
     )
