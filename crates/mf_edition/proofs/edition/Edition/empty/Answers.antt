@@ -6,10 +6,10 @@ use Rattle.mf_edition.proofs.edition.Edition.empty.Goals as goal
 
 pub invariant_of-result : goal.invariant_of-result
 invariant_of-result c = (
-    record {
-      few = search rules;
-      ordered = search rules;
-      ascending = subst (λ places. AreAscending (place_values places)) (sym c.new-4.ensures.items) ascending_none;
-    },
-    search rules,
-  )
+  record {
+    few = search rules;
+    ordered = search rules;
+    ascending = subst (λ places. AreAscending (place_values places)) (sym c.new-4.ensures.items) ascending_none;
+  },
+  search rules,
+)
