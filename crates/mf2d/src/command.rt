@@ -3,8 +3,8 @@ ghost use Rattle.mf_io.specs.Faults.{Rose};
 ghost use Rattle.mf_io.specs.Known.{ConsumesJust, ConsumesAtMost};
 ghost use Rattle.mf2d.specs.Commands.{cap_of, command_named, command_of, IsDone, IsDoneInPart};
 
-use crate::lint::{LINT_CAP, lint};
-use crate::pipe::{PIPE_CAP, pipe};
+use crate::lint::lint;
+use crate::pipe::pipe;
 use mf_io::{Sink, Source, Status};
 use mf_text::Texts;
 use std::alloc::Global;
@@ -70,9 +70,9 @@ pub fn top<S: Source, K: Sink>(alloc: Global, words: &Texts, source: &mut S, sin
     ensures stopped { result ≡ Status.WriteFault
         → IsDoneInPart (command_of words.now) (S.left source.old) (S.left source.new) (K.taken sink.old) (K.taken sink.new) }
     ensures full { result ≡ Status.InputFull
-        → (command_of words.now ≡ Some Command.Pipe) × ConsumesJust PIPE_CAP (S.left source.old) (S.left source.new) }
+        → (command_of words.now ≡ Some Command.Pipe) × ConsumesJust (cap_of (Some Command.Pipe)) (S.left source.old) (S.left source.new) }
     ensures long { result ≡ Status.LineTooLong
-        → (command_of words.now ≡ Some Command.Lint) × ConsumesJust LINT_CAP (S.left source.old) (S.left source.new) }
+        → (command_of words.now ≡ Some Command.Lint) × ConsumesJust (cap_of (Some Command.Lint)) (S.left source.old) (S.left source.new) }
     ensures unread { result ≡ Status.ReadFault
         → ConsumesAtMost (cap_of (command_of words.now)) (S.left source.old) (S.left source.new) }
     ensures silent { result ≢ Status.Ended → result ≢ Status.WriteFault → sink.new ≡ sink.old }
