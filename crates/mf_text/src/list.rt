@@ -67,6 +67,14 @@ impl<T> List<T> {
         self.members.as_slice()
     }
 
+    /// The members in order, taken out.
+    pub fn into_members(self) -> Vec<T>
+        ensures { result.items ≡ self }
+    {
+        let List { members } = self;
+        members
+    }
+
     /// Puts a member at the end.
     pub fn push(&mut self, member: T) -> Result<(), AllocError>
     where
@@ -76,19 +84,5 @@ impl<T> List<T> {
     {
         self.members.push(member)?;
         Ok(())
-    }
-}
-
-impl<T> Clone for List<T>
-where
-    T: Clone,
-{
-    ghost use Rattle.std.specs.List.{AllZip};
-
-    ghost is_clone = { AllZip T.is_clone };
-
-    fn clone(&self) -> Result<List<T>, AllocError> {
-        let members = self.members.clone()?;
-        Ok(List { members })
     }
 }

@@ -31,7 +31,9 @@ fn a_list_grows_at_its_end(rt: HostRuntime) -> Result<(), Fail> {
     assert_eq!(rt; texts.get(1).map(|text| text.as_str()), Some("two"));
     assert!(rt; texts.get(3).is_none());
     assert_eq!(rt; texts.as_slice().len(), 3);
-    assert!(rt; texts.clone()?.as_slice() == texts.as_slice());
+    let members = texts.into_members();
+    assert_eq!(rt; members.len(), 3);
+    assert_eq!(rt; members[2].as_str(), "three");
     Ok(())
 }
 
