@@ -1,4 +1,3 @@
 pub mod Parts
 pub mod Truncations
-pub mod Copied
 pub mod Read

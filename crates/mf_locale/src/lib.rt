@@ -2,7 +2,6 @@
 //! JSON.
 #![tactic(auto)]
 
-mod cloning;
 mod default;
 mod error;
 mod field;

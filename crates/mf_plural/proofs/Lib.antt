@@ -12,4 +12,3 @@ pub mod Wholes
 pub mod Ends
 pub mod Spaced
 pub mod Apart
-pub mod Copied

@@ -6,7 +6,6 @@
 #![tactic(auto)]
 
 mod choice;
-mod cloning;
 mod cut;
 mod error;
 mod grammar;
