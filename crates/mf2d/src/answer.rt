@@ -96,7 +96,7 @@ fn message_parts(
     ensures { IfOk result (λ parts. parts ≡ source_parts arguments.now source.now) }
 {
     match parse(alloc, source.as_str()) {
-        Ok(message) => pattern_parts(alloc, &message, arguments),
+        Ok(message) => pattern_parts(alloc, message, arguments),
         Err(ParseError::Syntax) => Ok(None),
         Err(ParseError::OutOfMemory) => Err(AllocError),
     }
@@ -105,10 +105,10 @@ fn message_parts(
 /// The parts of a message, if it is flat and each of its variables has an argument.
 fn pattern_parts(
     alloc: Global,
-    message: &Message,
+    message: Message,
     arguments: &Arguments,
 ) -> Result<Option<Parts>, AllocError>
-    ensures { IfOk result (λ parts. parts ≡ option_and_then (parts_of arguments.now) (the_lone_pattern message.now.declarations message.now.body)) }
+    ensures { IfOk result (λ parts. parts ≡ option_and_then (parts_of arguments.now) (the_lone_pattern message.declarations message.body)) }
 {
     match lone_pattern(message) {
         Some(pattern) => parts(alloc, pattern, arguments),
@@ -117,25 +117,22 @@ fn pattern_parts(
 }
 
 /// The pattern of a message that has no declarations and no matcher.
-fn lone_pattern(message: &Message) -> Option<&Pattern>
-    ensures { option_copied result ≡ the_lone_pattern message.now.declarations message.now.body }
+fn lone_pattern(message: Message) -> Option<Pattern>
+    ensures { result ≡ the_lone_pattern message.declarations message.body }
 {
-    match &message.body {
-        Body::Pattern(pattern) if message.declarations.is_empty() => Some(pattern),
+    let Message { declarations, body } = message;
+    match body {
+        Body::Pattern(pattern) if declarations.is_empty() => Some(pattern),
         _ => None,
     }
 }
 
-/// The parts of pieces, if each is a text or a lone variable that has an argument.
-fn parts(
-    alloc: Global,
-    pieces: &Pattern,
-    arguments: &Arguments,
-) -> Result<Option<Parts>, AllocError>
-    ensures { IfOk result (λ parts. parts ≡ parts_of arguments.now pieces.now) }
+/// The parts of pieces, if each is a text or a lone variable that has an argument. The texts aren't copied.
+fn parts(alloc: Global, pieces: Pattern, arguments: &Arguments) -> Result<Option<Parts>, AllocError>
+    ensures { IfOk result (λ parts. parts ≡ parts_of arguments.now pieces) }
 {
     let mut parts = Parts::new(alloc);
-    for piece in pieces.as_slice() {
+    for piece in pieces.into_members() {
         let Some(part) = part(piece, arguments)? else {
             return Ok(None);
         };
@@ -145,12 +142,12 @@ fn parts(
 }
 
 /// The part of a piece, if it is a text or a lone variable that has an argument.
-fn part(piece: &Piece, arguments: &Arguments) -> Result<Option<Part>, AllocError>
-    ensures { IfOk result (λ part. part ≡ piece_part arguments.now piece.now) }
+fn part(piece: Piece, arguments: &Arguments) -> Result<Option<Part>, AllocError>
+    ensures { IfOk result (λ part. part ≡ piece_part arguments.now piece) }
 {
     match piece {
-        Piece::Text(text) => Ok(Some(Part::Text(text.clone()?))),
-        Piece::Expression(expression) => expression_part(expression, arguments),
+        Piece::Text(text) => Ok(Some(Part::Text(text))),
+        Piece::Expression(expression) => expression_part(&expression, arguments),
         Piece::Markup(_) => Ok(None),
     }
 }
