@@ -1,7 +1,7 @@
 ghost use Rattle.std.specs.Prelude.{◌≡◌};
 ghost use Rattle.mf_lex.specs.Classes.{holds};
 
-use mf_text::{is_bidi, is_name_char, is_quoted, is_ws};
+use mf_text::{is_bidi, is_name_char, is_quoted, is_text, is_ws};
 
 /// A class of characters of which readers pass a run.
 #[derive(Clone, Copy)]
@@ -16,6 +16,8 @@ pub enum Class {
     NameChar,
     /// `quoted-char`
     Quoted,
+    /// `text-char`
+    Text,
 }
 
 impl Class {
@@ -29,6 +31,7 @@ impl Class {
             Class::Mark => is_bidi(c),
             Class::NameChar => is_name_char(c),
             Class::Quoted => is_quoted(c),
+            Class::Text => is_text(c),
         }
     }
 }

@@ -1,13 +1,16 @@
 //! The readers of the rules: each passes the longest text of its rule, and nothing where none begins.
-ghost use Rattle.std.specs.Prelude.{◌≡◌, ◌<◌, ◌≤◌, length, [], ◌∷◌, Some, None, true, MatchBool, IfOk, OnErr};
+ghost use Rattle.std.specs.Prelude.{◌≡◌, ◌<◌, ◌≤◌, length, [], ◌∷◌, Some, None, true, false, chars, MatchBool, IfOk, OnErr};
+ghost use Rattle.mf_text.specs.Characters.{is_text};
 ghost use Rattle.mf_text.specs.Languages.{Word};
 ghost use Rattle.mf_text.specs.Lexical.{O, S, SpellsEscapedChar, SpellsName, SpellsLiteral};
 ghost use Rattle.mf_lex.specs.Readers.{Finds, Reads, Passes, Shortens, SpellsIdent};
-ghost use Rattle.mf_lex.specs.Reading.{one_at, escape_at, after_space, has_space, name_at, identifier_at, literal_at};
+ghost use Rattle.mf_lex.specs.Reading.{is_next, run, behind_run, one_at, escape_at, after_space, has_space, name_at, identifier_at, literal_at};
 
+use crate::class::Class;
 use crate::escape::{pass_escape, pass_one};
 use crate::literal::read_literal;
 use crate::name::{read_identifier, read_name};
+use crate::run::take_run;
 use crate::space::{pass_needed_space, pass_space};
 use crate::{Cursor, Ident};
 use mf_text::Text;
@@ -43,6 +46,17 @@ impl<'a> Cursor<'a> {
         ensures whole { self.new.whole ≡ self.old.whole }
     {
         pass_needed_space(self)
+    }
+
+    /// Passes the characters of a text that stand for themselves, as many as there are, and gives them (`text-char`).
+    pub fn text_run(&mut self) -> &'a str
+        ensures taken { chars result.now ≡ run is_text self.old.left }
+        ensures computed { self.new.left ≡ behind_run is_text self.old.left }
+        ensures longest { is_next is_text self.new.left ≡ false }
+        ensures no_longer { length self.new.left ≤ length self.old.left }
+        ensures whole { self.new.whole ≡ self.old.whole }
+    {
+        take_run(self, Class::Text)
     }
 
     /// Passes a backslash and one of the characters that it may stand before, which is given (`escaped-char`).

@@ -1,14 +1,15 @@
 //! Patterns, one function a production.
-ghost use Rattle.std.specs.Prelude.{◌≡◌, ◌<◌, ◌++◌, ◌∷◌, true, false, Some, None, [], chars, length, string_bytes, IfOk, OnOk, IsErrOf, MatchOption, MatchBool};
-ghost use Rattle.mf_tree.specs.Spells.{character as as_item};
+ghost use Rattle.std.specs.Prelude.{◌≡◌, ◌<◌, ◌≤◌, ◌++◌, ◌∷◌, true, false, Some, None, [], chars, length, string_bytes, IfOk, OnOk, IsErrOf, MatchBool};
+ghost use Rattle.mf_text.specs.Characters.{is_text};
+ghost use Rattle.mf_lex.specs.Reading.{is_next as comes_next, run, behind_run};
 ghost use Rattle.mf_tree.specs.declared.pattern.Piece.TheVariants as Pieces;
-ghost use Rattle.mf_parse.specs.Syntax.{goes_on as pattern_goes_on, is_at, item_at, made, onto, pattern_at, quoted_pattern_at, text_ends, word_at};
+ghost use Rattle.mf_parse.specs.Syntax.{goes_on as pattern_goes_on, is_at, made, onto, pattern_at, quoted_pattern_at, text_ends, word_at};
 
 use crate::error::ParseError;
 use crate::markup::placeholder;
 use crate::spaces::is_next;
 use mf_lex::Cursor;
-use mf_text::{Text, is_text};
+use mf_text::Text;
 use mf_tree::{Pattern, Piece};
 use std::alloc::{AllocError, Global};
 
@@ -36,28 +37,13 @@ fn goes_on(cursor: &Cursor) -> bool
     }
 }
 
-/// The next character of a text, plain or escaped, if the text goes on.
-#[tactic(auto, using(crate::proofs::Texts::plain_item, crate::proofs::Texts::escaped_item))]
-fn character(cursor: &mut Cursor) -> Result<Option<char>, ParseError>
-    ensures found { IfOk result (λ found. MatchOption found
-        ((text_ends cursor.old.left ≡ true) × (cursor.new.left ≡ cursor.old.left))
-        (λ c. (pattern_goes_on cursor.old.left ≡ true) × (item_at cursor.old.left ≡ Some (as_item c, cursor.new.left)))) }
-    ensures none { IsErrOf result ParseError.Syntax → (pattern_goes_on cursor.old.left ≡ true) × (item_at cursor.old.left ≡ None) }
+/// Whether a text ends: a brace is next, or nothing.
+fn ends_text(cursor: &Cursor) -> bool
+    ensures { result ≡ text_ends cursor.now.left }
 {
-    let mut ahead = cursor.save();
-    let Some(c) = ahead.next() else {
-        return Ok(None);
-    };
-    if c == '{' || c == '}' {
-        return Ok(None);
-    }
-    if is_text(c) {
-        *cursor = ahead;
-        return Ok(Some(c));
-    }
-    match cursor.escape() {
-        Some(escaped) => Ok(Some(escaped)),
-        None => Err(ParseError::Syntax),
+    match cursor.peek() {
+        Some(c) => c == '{' || c == '}',
+        None => true,
     }
 }
 
@@ -68,8 +54,25 @@ fn push_character(text: &mut String, c: char) -> Result<(), AllocError>
     text.push(c)
 }
 
+/// Puts a run of characters at the end of a text.
+fn push_run(text: &mut String, run: &str) -> Result<(), AllocError>
+    ensures { OnOk result (chars (string_bytes text.new) ≡ chars (string_bytes text.old) ++ chars run.now) }
+{
+    text.push_str(run)
+}
+
+/// Passes the characters that stand for themselves, which are put at the end of a text.
+fn push_plain(text: &mut String, cursor: &mut Cursor) -> Result<(), AllocError>
+    ensures gained { OnOk result (chars (string_bytes text.new) ≡ chars (string_bytes text.old) ++ run is_text cursor.old.left) }
+    ensures left { cursor.new.left ≡ behind_run is_text cursor.old.left }
+    ensures end { comes_next is_text cursor.new.left ≡ false }
+    ensures no_longer { length cursor.new.left ≤ length cursor.old.left }
+{
+    let plain = cursor.text_run();
+    push_run(text, plain)
+}
+
 /// The longest text, which isn't empty.
-#[tactic(auto, using(crate::proofs::Texts::joins_none))]
 fn text(alloc: Global, cursor: &mut Cursor) -> Result<Text, ParseError>
     requires { text_ends cursor.now.left ≡ false }
     ensures found { IfOk result (λ text. pattern_at cursor.old.left ≡ made (onto (Pieces.Text text)) (pattern_at cursor.new.left)) }
@@ -77,8 +80,13 @@ fn text(alloc: Global, cursor: &mut Cursor) -> Result<Text, ParseError>
     ensures shorter { IfOk result (λ text. length cursor.new.left < length cursor.old.left) }
 {
     let mut text = String::new(alloc);
-    while let Some(c) = character(cursor)? {
+    push_plain(&mut text, cursor)?;
+    while let Some(c) = cursor.escape() {
         push_character(&mut text, c)?;
+        push_plain(&mut text, cursor)?;
+    }
+    if !ends_text(cursor) {
+        return Err(ParseError::Syntax);
     }
     Ok(Text::from(text))
 }

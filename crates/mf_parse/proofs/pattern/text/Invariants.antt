@@ -1,14 +1,15 @@
--- The text so far stands in front of what is left.
-use Rattle.std.proofs.Common.{chars, length, string_bytes}
-use Rattle.mf_parse.specs.Syntax.{pattern_at}
-use Rattle.mf_parse.proofs.Texts.{Joins, Progress}
+-- The text so far was passed, and no character that stands for itself is next.
+use Rattle.std.proofs.Common.{◌≡◌, false, chars, length, string_bytes}
+use Rattle.mf_text.specs.Characters.{is_text}
+use Rattle.mf_lex.specs.Reading.{is_next}
+use Rattle.mf_parse.proofs.Texts.{Passed}
 use Rattle.mf_parse.proofs.pattern.text.Given as goal
 
-abbrev pub invariant-loop-text : goal.invariant-loop-text
-invariant-loop-text l = record {
-  joins : Joins (pattern_at l.fn.cursor.left) (chars (string_bytes l.text)) (pattern_at l.cursor.left);
-  progress : Progress (chars (string_bytes l.text)) l.cursor.left l.fn.cursor.left;
+abbrev pub invariant-loop-c : goal.invariant-loop-c
+invariant-loop-c l = record {
+  passed : Passed (chars (string_bytes l.text)) l.fn.cursor.left l.cursor.left;
+  end : is_next is_text l.cursor.left ≡ false;
 }
 
-abbrev pub decreases-loop-text : goal.decreases-loop-text
-decreases-loop-text l = length l.cursor.left
+abbrev pub decreases-loop-c : goal.decreases-loop-c
+decreases-loop-c l = length l.cursor.left
