@@ -5,6 +5,10 @@ use Rattle.json.specs.Tree.{json_tokens}
 use Rattle.json.specs.Written.{Written}
 use Rattle.serde_json.specs.Data.{Data, number, string, object, unsigned, member, no_members}
 use Rattle.serde_json.specs.Written.{outline}
+use Rattle.mf_wire.specs.FieldNames.{field_name}
+use Rattle.mf_wire.specs.Replies.{op_name}
+use Rattle.mf_wire.specs.declared.field.Field.{Field}
+use Rattle.mf_wire.specs.declared.reply.Op.{Op}
 
 -- the tokens of a value
 abbrev pub data_tokens : Data → List Token
@@ -27,6 +31,14 @@ numbered_data number_name n text_name text = object (member number_name (number 
 -- an object of two texts
 abbrev pub texts_data : List ℕ → List ℕ → List ℕ → List ℕ → Data
 texts_data name text other_name other_text = object (member name (string text) (member other_name (string other_text) no_members))
+
+-- the object of a publication that is accepted
+abbrev pub accepted_data : ℕ → Op → Data
+accepted_data edition op = numbered_data (codes "edition") edition (codes "ok") (op_name op)
+
+-- the object of the refusal of a request for this field
+abbrev pub bad_request_data : Field → Data
+bad_request_data field = texts_data (codes "error") (codes "bad-request") (codes "field") (field_name field)
 
 -- the object of the refusal of a publication that would pass the limit of the log
 abbrev pub store_full_data : ℕ → ℕ → Data

@@ -4,9 +4,10 @@ ghost use Rattle.std.specs.Prelude.{◌≡◌, codes, IfSome, OnOk, encode_utf8_
 ghost use Rattle.serde_json.specs.Data.{number, string, array, unsigned, no_items};
 ghost use Rattle.mf_parts.specs.Joined.{text_of};
 ghost use Rattle.mf_wire.specs.Replies.{bad_locale_data, error_data, fault_data, faults_data, formatted_data, invalid_data, part_data, parts_data, reply_data, string_data, text_data, valid_data};
-ghost use Rattle.mf_wire.specs.Writing.{Writes, WritesMember, not_yet_data, numbered_data, store_full_data, texts_data};
+ghost use Rattle.mf_wire.specs.Writing.{Writes, WritesMember, accepted_data, bad_request_data, not_yet_data, numbered_data, store_full_data, texts_data};
 
-use crate::reply::Reply;
+use crate::field::Field;
+use crate::reply::{Op, Reply};
 use json::Writer;
 use mf_locale::{RecordField, Tag};
 use mf_parts::{Part, Parts, joined, joined_len};
@@ -33,13 +34,7 @@ pub(crate) fn write_reply(alloc: Global, out: &mut Writer, reply: &Reply) -> Res
     ensures { OnOk result (Writes (reply_data reply.now) out.old out.new) }
 {
     match reply {
-        Reply::Accepted { edition, op } => write_numbered(
-            out,
-            "edition",
-            *edition,
-            "ok",
-            op.as_str(),
-        ),
+        Reply::Accepted { edition, op } => write_accepted(out, *edition, *op),
         Reply::Formatted {
             edition,
             tag,
@@ -48,13 +43,7 @@ pub(crate) fn write_reply(alloc: Global, out: &mut Writer, reply: &Reply) -> Res
         Reply::LintValid { source } => write_valid(out, source),
         Reply::LintInvalid { faults } => write_invalid(out, faults),
         Reply::BadJson => write_error(out, "bad-json"),
-        Reply::BadRequest { field } => write_texts(
-            out,
-            "error",
-            "bad-request",
-            "field",
-            field.as_str(),
-        ),
+        Reply::BadRequest { field } => write_bad_request(out, *field),
         Reply::BadLocale { field, rule } => write_bad_locale(out, *field, *rule),
         Reply::EditionsFull { entries } => write_numbered(
             out,
@@ -140,6 +129,20 @@ fn write_texts(
     write_text(out, name, text)?;
     write_text(out, other_name, other_text)?;
     out.end_object()
+}
+
+/// Writes the object of a publication that is accepted.
+fn write_accepted(out: &mut Writer, edition: u64, op: Op) -> Result<(), AllocError>
+    ensures { OnOk result (Writes (accepted_data edition op) out.old out.new) }
+{
+    write_numbered(out, "edition", edition, "ok", op.as_str())
+}
+
+/// Writes the object of the refusal of a request for this field.
+fn write_bad_request(out: &mut Writer, field: Field) -> Result<(), AllocError>
+    ensures { OnOk result (Writes (bad_request_data field) out.old out.new) }
+{
+    write_texts(out, "error", "bad-request", "field", field.as_str())
 }
 
 /// Writes the object of the refusal of a locale record.
