@@ -1,2 +1,3 @@
+pub mod Bracketed
 pub mod FirstLine
-pub mod Floats
+pub mod Objects

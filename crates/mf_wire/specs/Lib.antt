@@ -5,3 +5,4 @@ pub mod Reading
 pub mod Replies
 pub mod RecordSizes
 pub mod Requests
+pub mod Writing

@@ -11,6 +11,7 @@ mod reading;
 mod reply;
 mod request;
 mod size;
+mod writing;
 
 pub use field::Field;
 pub use lines::first_line;

@@ -1,7 +1,9 @@
 use super::*;
 use mf_edition::Change;
-use mf_locale::RecordField;
-use mf_text::{Argued, Text};
+use mf_locale::{RecordField, Tag};
+use mf_parts::{Part, Parts};
+use mf_text::{Argued, Direction, Text};
+use mf_tree::{Fault, Faults, Kind};
 use std::alloc::{AllocError, Global};
 use std::test::Fail;
 
@@ -94,9 +96,9 @@ fn refused(alloc: Global, line: &str) -> &'static str {
     }
 }
 
-// Each field of each line that is built: missing, of another kind, and at both sides of its range.
+// Lines that aren't objects, whose `op` is missing, of another kind or unknown, or that ask for what isn't built.
 #[test]
-fn the_first_wrong_field_is_named(rt: HostRuntime) -> Result<(), Fail> {
+fn a_wrong_op_is_named(rt: HostRuntime) -> Result<(), Fail> {
     for (line, field) in [
         ("[]", "op"),
         ("1", "op"),
@@ -105,6 +107,16 @@ fn the_first_wrong_field_is_named(rt: HostRuntime) -> Result<(), Fail> {
         ("{\"op\":\"Lint\",\"source\":\"\"}", "op"),
         ("{\"op\":\"handler\"}", "not built"),
         ("{\"op\":\"stat\"}", "not built"),
+    ] {
+        assert_eq!(rt; refused(rt.alloc(), line), field, "{line}");
+    }
+    Ok(())
+}
+
+// Each field of a locale line that stands outside its record: missing, of another kind, and at both sides of its range.
+#[test]
+fn the_first_wrong_field_of_a_locale_is_named(rt: HostRuntime) -> Result<(), Fail> {
+    for (line, field) in [
         ("{\"op\":\"locale\"}", "tag"),
         ("{\"op\":\"locale\",\"tag\":1,\"record\":1}", "tag"),
         ("{\"op\":\"locale\",\"tag\":\"e\",\"record\":{}}", "tag"),
@@ -129,10 +141,30 @@ fn the_first_wrong_field_is_named(rt: HostRuntime) -> Result<(), Fail> {
             "{\"op\":\"locale\",\"tag\":\"en\",\"record\":{\"version\":1}}",
             "dir",
         ),
+    ] {
+        assert_eq!(rt; refused(rt.alloc(), line), field, "{line}");
+    }
+    Ok(())
+}
+
+// The field of a lint line: missing, of another kind, and right.
+#[test]
+fn a_wrong_source_is_named(rt: HostRuntime) -> Result<(), Fail> {
+    for (line, field) in [
         ("{\"op\":\"lint\"}", "source"),
         ("{\"op\":\"lint\",\"source\":null}", "source"),
         ("{\"op\":\"lint\",\"source\":[\"a\"]}", "source"),
         ("{\"op\":\"lint\",\"source\":\"\"}", "read"),
+    ] {
+        assert_eq!(rt; refused(rt.alloc(), line), field, "{line}");
+    }
+    Ok(())
+}
+
+// Each field of a publication: missing, of another kind, and at both sides of its range.
+#[test]
+fn the_first_wrong_field_of_a_publication_is_named(rt: HostRuntime) -> Result<(), Fail> {
+    for (line, field) in [
         ("{\"op\":\"publish\"}", "locale"),
         ("{\"op\":\"publish\",\"locale\":1,\"messages\":1}", "locale"),
         (
@@ -160,6 +192,16 @@ fn the_first_wrong_field_is_named(rt: HostRuntime) -> Result<(), Fail> {
             "{\"op\":\"publish\",\"locale\":\"en\",\"messages\":{\"a\":\"\"}}",
             "read",
         ),
+    ] {
+        assert_eq!(rt; refused(rt.alloc(), line), field, "{line}");
+    }
+    Ok(())
+}
+
+// Each field of a format line: missing, of another kind, and at both sides of its range.
+#[test]
+fn the_first_wrong_field_of_a_format_is_named(rt: HostRuntime) -> Result<(), Fail> {
+    for (line, field) in [
         ("{\"op\":\"format\"}", "locale"),
         (
             "{\"op\":\"format\",\"locale\":\"en_gb\",\"id\":\"a\"}",
@@ -265,6 +307,218 @@ fn a_bad_rule_has_its_number(rt: HostRuntime) -> Result<(), Fail> {
             Some(refusal),
             "{line}"
         );
+    }
+    Ok(())
+}
+
+/// The line of a reply.
+fn line_of(alloc: Global, reply: Reply) -> Result<String, AllocError> {
+    Ok(reply_line(alloc, &reply)?.into_string())
+}
+
+// The keys of each object in byte order, and no space.
+#[test]
+fn each_reply_is_one_object(rt: HostRuntime) -> Result<(), Fail> {
+    let alloc = rt.alloc();
+    for (reply, line) in [
+        (
+            Reply::Accepted {
+                edition: 0,
+                op: Op::Publish,
+            },
+            "{\"edition\":0,\"ok\":\"publish\"}",
+        ),
+        (
+            Reply::Accepted {
+                edition: u64::MAX,
+                op: Op::Locale,
+            },
+            "{\"edition\":18446744073709551615,\"ok\":\"locale\"}",
+        ),
+        (Reply::BadJson, "{\"error\":\"bad-json\"}"),
+        (
+            Reply::BadRequest { field: Field::Args },
+            "{\"error\":\"bad-request\",\"field\":\"args\"}",
+        ),
+        (
+            Reply::EditionsFull { entries: 7 },
+            "{\"entries\":7,\"error\":\"editions-full\"}",
+        ),
+        (
+            Reply::StoreFull { used: 10, size: 2 },
+            "{\"error\":\"store-full\",\"size\":2,\"used\":10}",
+        ),
+        (Reply::NotBuilt, "{\"error\":\"not-built\"}"),
+        (
+            Reply::NoMessage { edition: 3 },
+            "{\"edition\":3,\"error\":\"no-message\"}",
+        ),
+        (
+            Reply::NotYet {
+                edition: 3,
+                since: 4,
+            },
+            "{\"edition\":3,\"error\":\"not-yet\",\"since\":4}",
+        ),
+    ] {
+        assert_eq!(rt; line_of(alloc, reply)?.as_str(), line);
+    }
+    Ok(())
+}
+
+#[test]
+fn a_bad_record_is_refused_with_its_rule(rt: HostRuntime) -> Result<(), Fail> {
+    let alloc = rt.alloc();
+    for (rule, line) in [
+        (None, "{\"error\":\"bad-locale\",\"field\":\"plural\"}"),
+        (
+            Some(12),
+            "{\"error\":\"bad-locale\",\"field\":\"plural\",\"rule\":12}",
+        ),
+    ] {
+        let reply = Reply::BadLocale {
+            field: RecordField::Plural,
+            rule,
+        };
+        assert_eq!(rt; line_of(alloc, reply)?.as_str(), line);
+    }
+    Ok(())
+}
+
+#[test]
+fn errors_of_a_source_are_objects(rt: HostRuntime) -> Result<(), Fail> {
+    let alloc = rt.alloc();
+    let mut faults = Faults::new(alloc);
+    let none = Reply::LintInvalid {
+        faults: Faults::new(alloc),
+    };
+    assert_eq!(rt;
+        line_of(alloc, none)?.as_str(),
+        "{\"errors\":[],\"ok\":\"lint\"}"
+    );
+    for (kind, of) in [(Kind::Syntax, ""), (Kind::UnresolvedVariable, "$x")] {
+        let of = Text::of(alloc, of)?;
+        faults.push(Fault { kind, of })?;
+    }
+    assert_eq!(rt;
+        line_of(alloc, Reply::LintInvalid { faults })?.as_str(),
+        "{\"errors\":[{\"kind\":\"syntax-error\",\"of\":\"\"},{\"kind\":\"unresolved-variable\",\"of\":\"$x\"}],\"ok\":\"lint\"}"
+    );
+    Ok(())
+}
+
+/// The line of a formatted message of these parts.
+fn formatted(alloc: Global, parts: Parts) -> Result<String, AllocError> {
+    let tag = Tag::und(alloc)?;
+    let reply = Reply::Formatted {
+        edition: 1,
+        tag,
+        parts,
+    };
+    line_of(alloc, reply)
+}
+
+/// A string, isolated whatever its direction.
+fn string(alloc: Global, value: &str, id: Option<&str>) -> Result<Part, AllocError> {
+    let id = match id {
+        Some(id) => Some(Text::of(alloc, id)?),
+        None => None,
+    };
+    Ok(Part::String {
+        value: Text::of(alloc, value)?,
+        dir: Direction::Ltr,
+        forced: true,
+        id,
+    })
+}
+
+/// A part of each kind, its object in a reply, and its text there.
+fn part_rows(alloc: Global) -> Result<[(Part, &'static str, &'static str); 4], AllocError> {
+    Ok([
+        (
+            Part::Text(Text::of(alloc, "a\"")?),
+            "{\"kind\":\"text\",\"value\":\"a\\\"\"}",
+            "a\\\"",
+        ),
+        (
+            Part::Isolate('\u{2068}'),
+            "{\"kind\":\"isolate\",\"value\":\"\u{2068}\"}",
+            "\u{2068}",
+        ),
+        (
+            string(alloc, "b", None)?,
+            "{\"kind\":\"string\",\"value\":\"b\"}",
+            "b",
+        ),
+        (
+            string(alloc, "c", Some("d"))?,
+            "{\"id\":\"d\",\"kind\":\"string\",\"value\":\"c\"}",
+            "c",
+        ),
+    ])
+}
+
+/// The line of a formatted message whose parts have these objects and this text.
+fn expected(alloc: Global, objects: &str, text: &str) -> Result<String, AllocError> {
+    format!(in alloc;
+        "{{\"edition\":1,\"errors\":[],\"locale\":\"und\",\"ok\":\"format\",\"parts\":[{objects}],\"text\":\"{text}\"}}"
+    )
+}
+
+// No part, one part of each kind, and all of them: the text is the parts' joined.
+#[test]
+fn the_text_is_the_parts(rt: HostRuntime) -> Result<(), Fail> {
+    let alloc = rt.alloc();
+    let none = formatted(alloc, Parts::new(alloc))?;
+    assert_eq!(rt; none, expected(alloc, "", "")?);
+    for (part, object, text) in part_rows(alloc)? {
+        let mut parts = Parts::new(alloc);
+        parts.push(part)?;
+        assert_eq!(rt; formatted(alloc, parts)?, expected(alloc, object, text)?);
+    }
+    let mut parts = Parts::new(alloc);
+    let mut objects = String::new(alloc);
+    let mut texts = String::new(alloc);
+    for (part, object, text) in part_rows(alloc)? {
+        if !objects.is_empty() {
+            objects.push(',')?;
+        }
+        objects.push_str(object)?;
+        texts.push_str(text)?;
+        parts.push(part)?;
+    }
+    let all = expected(alloc, objects.as_str(), texts.as_str())?;
+    assert_eq!(rt; formatted(alloc, parts)?, all);
+    Ok(())
+}
+
+// Each character that JSON escapes, and some that it doesn't: U+007F, one past ASCII, one past 16 bits.
+#[test]
+fn characters_are_escaped(rt: HostRuntime) -> Result<(), Fail> {
+    let alloc = rt.alloc();
+    for (source, text) in [
+        ("", ""),
+        ("\"", "\\\""),
+        ("\\", "\\\\"),
+        ("\u{8}", "\\b"),
+        ("\u{c}", "\\f"),
+        ("\n", "\\n"),
+        ("\r", "\\r"),
+        ("\t", "\\t"),
+        ("\u{1}", "\\u0001"),
+        ("\u{1f}", "\\u001f"),
+        ("\u{7f}", "\u{7f}"),
+        ("/", "/"),
+        ("\u{e9}", "\u{e9}"),
+        ("\u{1f600}", "\u{1f600}"),
+        (
+            "a\"b\\c\u{8}d\u{c}e\nf\rg\th\u{1}i\u{7f}j\u{e9}k",
+            "a\\\"b\\\\c\\bd\\fe\\nf\\rg\\th\\u0001i\u{7f}j\u{e9}k",
+        ),
+    ] {
+        let line = format!(in alloc; "{{\"errors\":[],\"ok\":\"lint\",\"source\":\"{text}\"}}")?;
+        let source = Text::of(alloc, source)?;
+        assert_eq!(rt; line_of(alloc, Reply::LintValid { source })?, line);
     }
     Ok(())
 }
