@@ -4,8 +4,7 @@ use Rattle.std.proofs.Math.Seq.{take-append_seam, drop-append_seam}
 use Rattle.std.proofs.lemmas.Str.{IsCharBoundary-from_drop, IsUtf8-append}
 use Rattle.std.specs.List.{slice_range}
 use Rattle.std.specs.Prelude.{IsUtf8}
-use Rattle.std.specs.Str.{IsCharBoundary}
-use Rattle.mf_edition.specs.Items.{AreEnds, Item, item_in}
+use Rattle.mf_edition.specs.Items.{AreEnds, item_in}
 
 -- a range that begins at the front
 pub front_is : (bytes : List ℕ) (end : ℕ) → slice_range bytes 0 end ≡ take end bytes

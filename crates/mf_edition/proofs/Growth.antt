@@ -2,11 +2,8 @@
 use Rattle.std.proofs.Common.{◌≡◌, ◌<◌, ◌≤◌, ◌+◌, ◌^◌, ℕ, true, false, List, [], ◌∷◌, length, cond, refl, arith, map}
 use Rattle.std.specs.Arc.{arc_value}
 use Rattle.std.specs.List.{AllZip}
-use Rattle.std.specs.Ordering.{match_ordering}
 use Rattle.std.specs.declared.alloc.Global.{Global}
-use Rattle.std.specs.declared.cmp.Ordering.TheVariants.{Less, Equal, Greater}
 use Rattle.std.specs.declared.sync.Arc.{Arc}
-use Rattle.mf_text.specs.Order.{byte_cmp}
 use Rattle.mf_text.specs.declared.pair.Pair.{Pair}
 use Rattle.mf_edition.specs.declared.change.Change.{Change}
 use Rattle.mf_edition.specs.declared.change.Change.TheVariants.{Catalogue, Locale}

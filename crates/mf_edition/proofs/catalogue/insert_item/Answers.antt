@@ -1,4 +1,4 @@
-use Rattle.std.proofs.Common.{◌≡◌, chars, set, ap, sym, ◌∙◌, subst}
+use Rattle.std.proofs.Common.{◌≡◌, chars, ap, sym, ◌∙◌, subst}
 use Rattle.std.specs.Arc.{arc_value}
 use Rattle.mf_edition.specs.Catalogues.{IsCatalogue, IsItemAt, IsItemGap}
 use Rattle.mf_edition.specs.Items.{item_values}

@@ -1,4 +1,4 @@
-use Rattle.std.proofs.Common.{◌≡◌, chars, ◌++◌, ◌∷◌, [], set, ap, sym, ◌∙◌, subst}
+use Rattle.std.proofs.Common.{chars, ◌++◌, ◌∷◌, [], set, ap, sym, ◌∙◌, subst}
 use Rattle.std.proofs.lemmas.List.{get_or_default}
 use Rattle.std.specs.Arc.{arc_value}
 use Rattle.std.specs.List.{insert}

@@ -1,10 +1,10 @@
 -- The items of the publication are its messages, each of its tag.
-use Rattle.std.proofs.Common.{◌≡◌, ◌<◌, ◌^◌, map, length, ap, sym, ◌∙◌, subst}
+use Rattle.std.proofs.Common.{◌≡◌, ◌<◌, ◌^◌, length, ap, sym, ◌∙◌, subst}
 use Rattle.std.proofs.lemmas.List.{length-map}
 use Rattle.std.specs.Arc.{arc_value}
 use Rattle.mf_edition.specs.Catalogues.{Catalogue}
 use Rattle.mf_edition.specs.Edition.{put_all}
-use Rattle.mf_edition.specs.Items.{item_of, item_values, message_of}
+use Rattle.mf_edition.specs.Items.{item_values}
 use Rattle.mf_edition.specs.Views.{put_items}
 use Rattle.mf_edition.proofs.Growth.{values_shared}
 use Rattle.mf_edition.proofs.InPlace.{put_items-kept}
