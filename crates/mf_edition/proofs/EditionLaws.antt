@@ -6,10 +6,9 @@ use Rattle.mf_text.specs.declared.pair.Pair.{Pair}
 use Rattle.mf_edition.specs.declared.change.Change.{Change}
 use Rattle.mf_edition.specs.declared.change.Change.TheVariants.{Catalogue, Locale}
 use Rattle.mf_edition.specs.declared.change.Entry.{Entry}
-use Rattle.mf_edition.specs.declared.item.Item.{Item}
+use Rattle.mf_edition.specs.Items.{Item}
 use Rattle.mf_edition.specs.declared.place.Place.{Place}
 use Rattle.mf_edition.specs.Edition.{changed, edition_after, empty_edition, edition_of, is_named, is_same_name, next_edition, placed, put, put_all, ChangesAreBounded, EditionState, EditionsAreNumbered, EditionsFollow, EditionsHaveDistinctNames, EditionsHaveDistinctTags, EditionsStay, HasDistinctNames}
-use Rattle.mf_edition.specs.Messages.{in_byte_order}
 use Rattle.mf_edition.specs.Order.{name_of, names_of, Name}
 use Rattle.mf_edition.specs.Places.{AreAscending}
 use Rattle.mf_edition.proofs.Growth.{length-changed}
@@ -41,7 +40,7 @@ HasDistinctNames-put_all items tag (message ∷ messages) distinct =
     HasDistinctNames-put_all (put items tag message) tag messages (HasDistinctNames-put items tag message distinct)
 
 HasDistinctNames-changed : (items : List Item) (change : Change) → HasDistinctNames items → HasDistinctNames (changed items change)
-HasDistinctNames-changed items (Catalogue tag messages) distinct = HasDistinctNames-put_all items tag (in_byte_order messages) distinct
+HasDistinctNames-changed items (Catalogue catalogue) distinct = HasDistinctNames-put_all items catalogue.tag catalogue.messages distinct
 HasDistinctNames-changed items (Locale tag place size) distinct = distinct
 
 HasDistinctNames-after : (edition : EditionState) (entries : List Entry) → HasDistinctNames edition.items → HasDistinctNames (edition_after edition entries).items
@@ -54,7 +53,7 @@ unfolding IsDistinct
 distinct_names log k = HasDistinctNames-after empty_edition (take k log) tt
 
 AreAscending-placed : (places : List Place) (change : Change) → AreAscending places → AreAscending (placed places change)
-AreAscending-placed places (Catalogue tag messages) up = up
+AreAscending-placed places (Catalogue catalogue) up = up
 AreAscending-placed places (Locale tag place size) up = AreAscending-put_place places (record { tag = tag; place = place }) up
 
 AreAscending-after : (edition : EditionState) (entries : List Entry) → AreAscending edition.places → AreAscending (edition_after edition entries).places

@@ -2,17 +2,13 @@
 use Rattle.std.proofs.Common.{◌≡◌, ◌<◌, ◌≤◌, ◌+◌, ◌^◌, ℕ, true, false, List, [], ◌∷◌, length, cond, refl, arith, map}
 use Rattle.std.specs.Arc.{arc_value}
 use Rattle.std.specs.List.{AllZip}
-use Rattle.std.specs.Ordering.{match_ordering}
 use Rattle.std.specs.declared.alloc.Global.{Global}
-use Rattle.std.specs.declared.cmp.Ordering.TheVariants.{Less, Equal, Greater}
 use Rattle.std.specs.declared.sync.Arc.{Arc}
-use Rattle.mf_text.specs.Order.{byte_cmp}
 use Rattle.mf_text.specs.declared.pair.Pair.{Pair}
 use Rattle.mf_edition.specs.declared.change.Change.{Change}
 use Rattle.mf_edition.specs.declared.change.Change.TheVariants.{Catalogue, Locale}
-use Rattle.mf_edition.specs.declared.item.Item.{Item}
+use Rattle.mf_edition.specs.Items.{Item}
 use Rattle.mf_edition.specs.Edition.{changed, is_named, message_count, put, put_all, EditionState, HasRoom}
-use Rattle.mf_edition.specs.Messages.{in_byte_order, insert_message, insert_messages}
 
 -- a message adds at most one
 pub length-put : (items : List Item) (tag : List ℕ) (message : Pair) → (length items ≤ length (put items tag message)) × (length (put items tag message) ≤ length items + 1)
@@ -29,25 +25,10 @@ length-put_all items tag (message ∷ messages) =
     let rest = length-put_all (put items tag message) tag messages in
     (omega arith, omega arith)
 
-length-insert_message : (message : Pair) (sorted : List Pair) → length (insert_message message sorted) ≤ length sorted + 1
-length-insert_message message [] = omega arith
-length-insert_message message (next ∷ more) =
-    let rest = length-insert_message message more in
-    elim (byte_cmp message.name next.name) as (λ o. length (match_ordering o (message ∷ next ∷ more) (record next { value = message.value } ∷ more) (next ∷ insert_message message more)) ≤ length (next ∷ more) + 1)
-    [ Less ↦ omega arith | Equal ↦ omega arith | Greater ↦ omega arith ]
-
-length-insert_messages : (sorted messages : List Pair) → length (insert_messages sorted messages) ≤ length sorted + length messages
-length-insert_messages sorted [] = omega arith
-length-insert_messages sorted (message ∷ messages) =
-    let one = length-insert_message message sorted in
-    let rest = length-insert_messages (insert_message message sorted) messages in
-    omega arith
-
 -- a change adds at most as many messages as it has
 pub length-changed : (items : List Item) (change : Change) → length (changed items change) ≤ length items + message_count change
-length-changed items (Catalogue tag messages) =
-    let fewer = length-insert_messages [] messages in
-    let grown = length-put_all items tag (in_byte_order messages) in
+length-changed items (Catalogue catalogue) =
+    let grown = length-put_all items catalogue.tag catalogue.messages in
     omega arith
 length-changed items (Locale tag place size) = omega arith
 

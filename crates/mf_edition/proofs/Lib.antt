@@ -1,4 +1,5 @@
-pub mod Ordered
+pub mod Cut
+pub mod ItemSearch
 pub mod Placed
 pub mod Searched
 pub mod Pushed

@@ -3,12 +3,8 @@ use Rattle.std.proofs.Common.{◌≡◌, ◌<◌, ◌≤◌, ◌+◌, ◌-◌, �
 use Rattle.std.proofs.lemmas.Bool.{cases_lt}
 use Rattle.std.proofs.lemmas.List.{get_or-append-add, get_or_append_left}
 use Rattle.std.proofs.lemmas.List.Edits.{insert-append_right}
-use Rattle.std.proofs.lemmas.Cmp.{tied_itself}
-use Rattle.std.specs.Borrow.{Bor}
 use Rattle.std.specs.List.{insert, AllByRecursion}
 use Rattle.std.specs.List.Sorted.{IsStrictlySortedBy}
-use Rattle.std.specs.Ordering.{ordering_then}
-use Rattle.mf_text.specs.Order.{byte_cmp, byte_cmp_total}
 use Rattle.std.specs.declared.cmp.Ordering.TheVariants.{Less}
 use Rattle.mf_edition.specs.Order.{name_at, name_cmp, AreBelow, IsAscending, IsFound, IsGap, IsOrder, Name}
 use Rattle.mf_edition.proofs.Placed.{name_cmp_total}
@@ -89,16 +85,16 @@ module _ (names : List Name) (order rest : List ℕ) where
     each = λ k inside. name_cmp_total.trans (name_at names (get_or order k 0)) name next (below.each k inside) less;
   }
 
--- ids that ascend: those after the first are above it
-pub sorted_split : (id : Bor (List ℕ)) (ids : List (Bor (List ℕ))) → IsStrictlySortedBy (λ a b. byte_cmp a.now b.now) (id ∷ ids)
-    → AllByRecursion (λ next. byte_cmp id.now next.now ≡ Less) ids × IsStrictlySortedBy (λ a b. byte_cmp a.now b.now) ids
+-- names that ascend: those after the first are above it
+pub names_split : (name : Name) (names : List Name) → IsStrictlySortedBy name_cmp (name ∷ names)
+    → AllByRecursion (λ next. name_cmp name next ≡ Less) names × IsStrictlySortedBy name_cmp names
 unfolding IsStrictlySortedBy
-sorted_split id ids sorted = sorted
+names_split name names sorted = sorted
 
-same_tag : (tag id next : List ℕ) → byte_cmp id next ≡ Less → name_cmp (tag, id) (tag, next) ≡ Less
-same_tag tag id next less = ap (λ o. ordering_then o (byte_cmp id next)) (tied_itself byte_cmp_total tag) ∙ less
+pub below_all : (P : Name → Type 0) (name : Name) (names : List Name) → ((next : Name) → name_cmp name next ≡ Less → P next)
+    → AllByRecursion (λ next. name_cmp name next ≡ Less) names → AllByRecursion P names
+below_all P name [] holds all = tt
+below_all P name (next ∷ names) holds all = (holds next all.0, below_all P name names holds all.1)
 
-pub below_all : (P : Name → Type 0) (tag id : List ℕ) (ids : List (Bor (List ℕ))) → ((next : Name) → name_cmp (tag, id) next ≡ Less → P next)
-    → AllByRecursion (λ next. byte_cmp id next.now ≡ Less) ids → AllByRecursion (λ next. P (tag, next.now)) ids
-below_all P tag id [] holds all = tt
-below_all P tag id (next ∷ ids) holds all = (holds (tag, next.now) (same_tag tag id next.now all.0), below_all P tag id ids holds all.1)
+pub first_below : (P : Name → Type 0) (name : Name) (names : List Name) → AllByRecursion P (name ∷ names) → P name
+first_below P name names all = all.0

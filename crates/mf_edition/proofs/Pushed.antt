@@ -8,10 +8,9 @@ use Rattle.std.specs.List.{insert}
 use Rattle.std.specs.Ordering.{ordering_reverse}
 use Rattle.std.specs.declared.cmp.Ordering.TheVariants.{Less, Greater}
 use Rattle.mf_text.specs.declared.pair.Pair.{Pair}
-use Rattle.mf_edition.specs.declared.item.Item.{Item}
+use Rattle.mf_edition.specs.Items.{Item, item_of}
 use Rattle.mf_edition.specs.Edition.{is_named, put}
 use Rattle.mf_edition.specs.Order.{name_at, name_cmp, name_of, names_of, IsGap, IsOrder, Name}
-use Rattle.mf_edition.specs.Views.{item_of}
 use Rattle.mf_edition.proofs.Placed.{has_name, name_cmp_total, no_item}
 
 -- a message that is there gets the new source

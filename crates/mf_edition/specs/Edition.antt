@@ -6,9 +6,8 @@ use Rattle.mf_text.specs.declared.pair.Pair.{Pair}
 use Rattle.mf_edition.specs.declared.change.Change.{Change}
 use Rattle.mf_edition.specs.declared.change.Change.TheVariants.{Catalogue, Locale}
 use Rattle.mf_edition.specs.declared.change.Entry.{Entry}
-use Rattle.mf_edition.specs.declared.item.Item.{Item}
+use Rattle.mf_edition.specs.Items.{Item}
 use Rattle.mf_edition.specs.declared.place.Place.{Place}
-use Rattle.mf_edition.specs.Messages.{in_byte_order}
 use Rattle.mf_edition.specs.Places.{is_for, put_place}
 
 -- what an edition is: its number, its messages in the order of their places, and the records of tags in the order of the tags
@@ -34,17 +33,17 @@ put_all items tag (message ∷ messages) = put_all (put items tag message) tag m
 
 -- the list of messages after a change
 abbrev pub changed : List Item → Change → List Item
-changed items (Catalogue tag messages) = put_all items tag (in_byte_order messages)
+changed items (Catalogue catalogue) = put_all items catalogue.tag catalogue.messages
 changed items (Locale tag place size) = items
 
 -- the records of tags after a change
 abbrev pub placed : List Place → Change → List Place
-placed places (Catalogue tag messages) = places
+placed places (Catalogue catalogue) = places
 placed places (Locale tag place size) = put_place places (record { tag = tag; place = place })
 
 -- the number of messages that a change has
 abbrev pub message_count : Change → ℕ
-message_count (Catalogue tag messages) = length messages
+message_count (Catalogue catalogue) = length catalogue.messages
 message_count (Locale tag place size) = 0
 
 abbrev pub empty_edition : EditionState

@@ -5,12 +5,12 @@ use Rattle.std.specs.declared.alloc.Global.{Global}
 use Rattle.std.specs.declared.sync.Arc.{Arc}
 use Rattle.mf_locale.specs.Records.{root_record}
 use Rattle.mf_locale.specs.declared.record.LocaleRecord.{LocaleRecord}
-use Rattle.mf_edition.specs.declared.item.Item.{Item}
+use Rattle.mf_edition.specs.Items.{Item, item_values}
 use Rattle.mf_edition.specs.declared.place.Place.{Place}
 use Rattle.mf_edition.specs.Edition.{EditionState}
 use Rattle.mf_edition.specs.Order.{names_of, IsOrder}
 use Rattle.mf_edition.specs.Places.{AreAscending}
-use Rattle.mf_edition.specs.Views.{item_values, place_values}
+use Rattle.mf_edition.specs.Views.{place_values}
 
 -- what callers see
 abbrev pub state_of : ℕ → List (Arc Item Global) → List (Arc Place Global) → EditionState

@@ -1,3 +1,5 @@
+pub mod Items
+pub mod Catalogues
 pub mod Edition
 pub mod Messages
 pub mod Places

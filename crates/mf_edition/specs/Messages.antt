@@ -1,4 +1,4 @@
--- The messages of a publication, in the order in which they are put into an edition.
+-- The messages of a publication, in the order in which they are kept and put into an edition.
 use Rattle.std.specs.Prelude.{List, [], ◌∷◌}
 use Rattle.std.specs.Ordering.{match_ordering}
 use Rattle.mf_text.specs.Order.{byte_cmp}
@@ -8,7 +8,7 @@ use Rattle.mf_text.specs.declared.pair.Pair.{Pair}
 abbrev pub insert_message : Pair → List Pair → List Pair
 insert_message message [] = message ∷ []
 insert_message message (next ∷ more) =
-    match_ordering (byte_cmp message.name next.name) (message ∷ next ∷ more) (record next { value = message.value } ∷ more) (next ∷ insert_message message more)
+    match_ordering (byte_cmp message.name next.name) (message ∷ next ∷ more) (message ∷ more) (next ∷ insert_message message more)
 
 -- messages one after the other among those that are in order already
 abbrev pub insert_messages : List Pair → List Pair → List Pair

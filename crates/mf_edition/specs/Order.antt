@@ -4,7 +4,7 @@ use Rattle.std.specs.Ordering.{ordering_then}
 use Rattle.std.specs.declared.cmp.Ordering.{Ordering}
 use Rattle.std.specs.declared.cmp.Ordering.TheVariants.{Less, Equal, Greater}
 use Rattle.mf_text.specs.Order.{byte_cmp}
-use Rattle.mf_edition.specs.declared.item.Item.{Item}
+use Rattle.mf_edition.specs.Items.{Item}
 
 -- what a message is found by: its tag and its id
 abbrev pub Name : Type 0

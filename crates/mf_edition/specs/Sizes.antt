@@ -22,7 +22,7 @@ shown size = min size (2 ^ 64 - 1)
 
 -- the size of a change: 64 bytes, and those of the texts that it has
 abbrev pub size_of : Change → ℕ
-size_of (Catalogue tag messages) = shown (64 + byte_count tag + messages_size messages)
+size_of (Catalogue catalogue) = shown (64 + byte_count catalogue.tag + messages_size catalogue.messages)
 size_of (Locale tag place size) = size
 
 -- the sizes of the changes of a log together

@@ -1,8 +1,8 @@
 ghost use Rattle.std.specs.Prelude.{◌≡◌, ◌+◌};
 ghost use Rattle.mf_edition.specs.Sizes.{byte_count, messages_size, shown};
 
+use crate::Catalogue;
 use mf_locale::{SharedRecord, Tag};
-use mf_text::{Pair, Pairs, Text};
 
 /// The bytes that each change counts for beside its texts.
 const OVERHEAD: u64 = 64;
@@ -10,11 +10,8 @@ const OVERHEAD: u64 = 64;
 /// What a publication changes.
 #[derive(Debug, Drop)]
 pub enum Change {
-    /// The sources of messages of one tag, by their ids.
-    Catalogue {
-        tag: Tag,
-        messages: Pairs,
-    },
+    /// The messages of one tag.
+    Catalogue(Catalogue),
     /// The record of one tag. Its size is in bytes: 64, and those of the tag and of the texts that the record was read
     /// from.
     Locale {
@@ -34,7 +31,7 @@ impl Change {
         ensures { result ≡ message_count self.now }
     {
         match self {
-            Change::Catalogue { messages, .. } => messages.len(),
+            Change::Catalogue(catalogue) => catalogue.len(),
             Change::Locale { .. } => 0,
         }
     }
@@ -44,29 +41,23 @@ impl Change {
         ensures { result ≡ size_of self.now }
     {
         match self {
-            Change::Catalogue { tag, messages } => catalogue_size(tag, messages.as_slice()),
+            Change::Catalogue(catalogue) => catalogue_size(catalogue),
             Change::Locale { size, .. } => *size,
         }
     }
 }
 
 /// The size of a catalogue.
-fn catalogue_size(tag: &Tag, messages: &[Pair]) -> u64
-    ensures { result ≡ shown (64 + byte_count tag.now + messages_size messages.now) }
+fn catalogue_size(catalogue: &Catalogue) -> u64
+    ensures { result ≡ shown (64 + byte_count catalogue.now.tag + messages_size catalogue.now.messages) }
 {
-    let mut size = OVERHEAD.saturating_add(byte_count(tag.as_text()));
-    for message in messages {
-        size = size.saturating_add(byte_count(&message.name));
-        size = size.saturating_add(byte_count(&message.value));
+    let tag = catalogue.tag().as_text().as_str();
+    let mut size = OVERHEAD.saturating_add(tag.len() as u64);
+    for item in catalogue.items().as_slice() {
+        size = size.saturating_add(item.id().len() as u64);
+        size = size.saturating_add(item.source().len() as u64);
     }
     size
-}
-
-/// The bytes of a text in UTF-8.
-fn byte_count(text: &Text) -> u64
-    ensures { result ≡ byte_count text.now }
-{
-    text.as_str().len() as u64
 }
 
 /// A change that was accepted.

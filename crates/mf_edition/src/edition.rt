@@ -1,17 +1,15 @@
 ghost use Rattle.std.specs.Prelude.{◌≡◌, ◌↔◌, ◌+◌, ◌<◌, ◌^◌, length, position, slice_get, IfOk, IsTrue, OnErr, OnOk};
 ghost use Rattle.std.specs.Option.{option_copied};
 ghost use Rattle.mf_edition.specs.Edition.{changed, empty_edition, is_named, message_count, next_edition, placed, put_all, HasRoom};
-ghost use Rattle.mf_edition.specs.Messages.{in_byte_order};
 ghost use Rattle.mf_edition.specs.Places.{place_for, put_place};
 ghost use Rattle.mf_edition.specs.declared.place.Place.{Place as Named};
 
-use crate::in_place::{put_all_in_place, shared_items};
+use crate::in_place::put_all_in_place;
 use crate::order::{place_of, put_messages};
 use crate::place::{place_for, put_place, shared_place};
-use crate::publication::sources_by_id;
-use crate::{Change, Item, Place};
+use crate::{Catalogue, Change, Item, Place};
 use mf_locale::{LocaleRecord, SharedRecord, Tag, root};
-use mf_text::{Pair, Text};
+use mf_text::Text;
 use std::alloc::{AllocError, Global};
 use std::marker::Model;
 use std::sync::Arc;
@@ -65,22 +63,21 @@ impl Edition {
         ensures { IfOk result (λ edition. edition ≡ next_edition self.now change.now) }
     {
         match change {
-            Change::Catalogue { tag, messages } => self.with_messages(tag, messages.as_slice()),
+            Change::Catalogue(catalogue) => self.with_messages(catalogue),
             Change::Locale { tag, place, .. } => self.with_place(tag, place),
         }
     }
 
     /// The edition after a publication of messages.
-    fn with_messages(&self, tag: &Tag, messages: &[Pair]) -> Result<Edition, AllocError>
-        requires few { length (put_all self.now.items tag.now (in_byte_order messages.now)) < 2 ^ 32 }
+    fn with_messages(&self, catalogue: &Catalogue) -> Result<Edition, AllocError>
+        requires few { length (put_all self.now.items catalogue.now.tag catalogue.now.messages) < 2 ^ 32 }
         requires number { self.now.number + 1 < 2 ^ 64 }
         ensures number { IfOk result (λ edition. edition.number ≡ self.now.number + 1) }
-        ensures items { IfOk result (λ edition. edition.items ≡ put_all self.now.items tag.now (in_byte_order messages.now)) }
+        ensures items { IfOk result (λ edition. edition.items ≡ put_all self.now.items catalogue.now.tag catalogue.now.messages) }
         ensures places { IfOk result (λ edition. edition.places ≡ self.now.places) }
     {
-        let sources = sources_by_id(self.alloc, messages)?;
         let mut items = self.items.clone()?;
-        let order = put_messages(self.alloc, &mut items, &self.order, tag, &sources)?;
+        let order = put_messages(self.alloc, &mut items, &self.order, catalogue.items())?;
         Ok(Edition {
             alloc: self.alloc,
             number: self.number + 1,
@@ -133,21 +130,20 @@ impl Edition {
         ensures err { OnErr result (self.new ≡ self.old) }
     {
         match change {
-            Change::Catalogue { tag, messages } => self.put_messages(tag, messages.as_slice()),
+            Change::Catalogue(catalogue) => self.put_messages(catalogue),
             Change::Locale { tag, place, .. } => self.put_place(tag, place),
         }
     }
 
     /// Takes in the messages of a publication.
-    fn put_messages(&mut self, tag: &Tag, messages: &[Pair]) -> Result<(), AllocError>
-        requires { length (put_all self.old.items tag.now (in_byte_order messages.now)) < 2 ^ 32 }
+    fn put_messages(&mut self, catalogue: &Catalogue) -> Result<(), AllocError>
+        requires { length (put_all self.old.items catalogue.now.tag catalogue.now.messages) < 2 ^ 32 }
         ensures number { self.new.number ≡ self.old.number }
-        ensures items { OnOk result (self.new.items ≡ put_all self.old.items tag.now (in_byte_order messages.now)) }
+        ensures items { OnOk result (self.new.items ≡ put_all self.old.items catalogue.now.tag catalogue.now.messages) }
         ensures places { self.new.places ≡ self.old.places }
         ensures err { OnErr result (self.new ≡ self.old) }
     {
-        let sources = sources_by_id(self.alloc, messages)?;
-        let new = shared_items(self.alloc, tag, &sources)?;
+        let new = catalogue.items().clone()?;
         self.items.reserve(new.len())?;
         self.order.reserve(new.len())?;
         put_all_in_place(&mut self.items, &mut self.order, new);

@@ -1,36 +1,16 @@
 //! Messages put into an edition that has room for them, which takes no memory.
-ghost use Rattle.std.specs.Prelude.{◌≡◌, ◌≤◌, ◌<◌, ◌+◌, ◌^◌, length, map, IfOk};
+ghost use Rattle.std.specs.Prelude.{◌≡◌, ◌≤◌, ◌<◌, ◌+◌, ◌^◌, length};
 ghost use Rattle.std.specs.Arc.{arc_value};
 ghost use Rattle.std.specs.List.{insert};
 ghost use Rattle.std.specs.Vec.{vec_capacity, vec_len};
 ghost use Rattle.mf_edition.specs.Edition.{put};
 ghost use Rattle.mf_edition.specs.Order.{IsOrder};
-ghost use Rattle.mf_edition.specs.Views.{entry_pair, item_of, item_values, message_of, names_in, put_items};
+ghost use Rattle.mf_edition.specs.Items.{item_values, message_of};
+ghost use Rattle.mf_edition.specs.Views.{names_in, put_items};
 
 use crate::Item;
-use crate::item::shared_item;
 use crate::order::search;
-use mf_locale::Tag;
-use mf_text::Text;
-use std::alloc::{AllocError, Global};
-use std::collections::BTreeMap;
 use std::sync::Arc;
-
-/// The messages of one tag, in the order of their ids.
-pub fn shared_items(
-    alloc: Global,
-    tag: &Tag,
-    sources: &BTreeMap<&Text, &Text>,
-) -> Result<Vec<Arc<Item>>, AllocError>
-    ensures { IfOk result (λ items. item_values items.items ≡ map (item_of tag.now) (map entry_pair sources.now.entries)) }
-{
-    let mut items = Vec::new(alloc);
-    for (id, source) in sources {
-        let item = shared_item(alloc, tag, id, source)?;
-        items.push(item)?;
-    }
-    Ok(items)
-}
 
 /// Puts messages in, one after the other.
 pub fn put_all_in_place(items: &mut Vec<Arc<Item>>, order: &mut Vec<u32>, new: Vec<Arc<Item>>)
@@ -60,7 +40,7 @@ fn put_in_place(items: &mut Vec<Arc<Item>>, order: &mut Vec<u32>, item: Arc<Item
     ensures items_fit { vec_capacity items.old ≤ vec_capacity items.new }
     ensures places_fit { vec_capacity order.old ≤ vec_capacity order.new }
 {
-    match search(items, order, &item.tag, &item.id) {
+    match search(items, order, item.tag(), item.id()) {
         Ok(at) => {
             let place = order[at] as usize;
             items[place] = item;

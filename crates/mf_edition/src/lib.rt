@@ -1,6 +1,7 @@
 //! The log of changes, and the editions of the messages and locale records that it makes.
 #![tactic(auto)]
 
+mod catalogue;
 mod change;
 mod edition;
 mod error;
@@ -10,8 +11,8 @@ mod laws;
 mod log;
 mod order;
 mod place;
-mod publication;
 
+pub use catalogue::Catalogue;
 pub use change::{Change, Entry};
 pub use edition::Edition;
 pub use error::PublishError;

@@ -1,36 +1,34 @@
 //! The places of messages in the order of their tags and ids.
-ghost use Rattle.std.specs.Prelude.{◌≡◌, ◌≤◌, ◌<◌, ◌^◌, ◌++◌, drop, length, map, position, IfOk, MatchResult, OnOk};
+ghost use Rattle.std.specs.Prelude.{◌≡◌, ◌≤◌, ◌<◌, ◌^◌, ◌++◌, chars, drop, length, position, IfOk, MatchResult, OnOk};
 ghost use Rattle.std.specs.Arc.{arc_value};
-ghost use Rattle.std.specs.BTreeMap.{keys};
 ghost use Rattle.std.specs.declared.cmp.Ordering.TheVariants.{Less};
 ghost use Rattle.std.specs.List.Sorted.{IsStrictlySortedBy};
-ghost use Rattle.mf_text.specs.Order.{byte_cmp};
-ghost use Rattle.mf_edition.specs.Edition.{is_named, put, put_all};
+ghost use Rattle.mf_edition.specs.Edition.{is_named, put};
+ghost use Rattle.mf_edition.specs.Items.{item_values, message_of};
 ghost use Rattle.mf_edition.specs.Order.{name_cmp, name_of, place_cmp, AreBelow, IsAscending, IsFound, IsGap, IsOrder, Name};
-ghost use Rattle.mf_edition.specs.Views.{entry_pair, item_values, message_of, names_in};
+ghost use Rattle.mf_edition.specs.Views.{names_in, put_items};
 
 use crate::Item;
-use crate::item::{compare_names, shared_item};
+use crate::item::compare_names;
 use mf_locale::Tag;
 use mf_text::Text;
 use std::alloc::{AllocError, Global};
 use std::cmp::Ordering;
-use std::collections::BTreeMap;
 use std::sync::Arc;
 
 /// Where the place of a message stands in the order, or where it would have to stand.
-pub fn search(items: &[Arc<Item>], order: &[u32], tag: &Tag, id: &Text) -> Result<usize, usize>
+pub fn search(items: &[Arc<Item>], order: &[u32], tag: &str, id: &str) -> Result<usize, usize>
     requires { IsAscending (names_in items.now) order.now }
     ensures { MatchResult result
-        (λ at. IsFound (names_in items.now) order.now (tag.now, id.now) at)
-        (λ at. IsGap (names_in items.now) order.now (tag.now, id.now) at) }
+        (λ at. IsFound (names_in items.now) order.now (chars tag.now, chars id.now) at)
+        (λ at. IsGap (names_in items.now) order.now (chars tag.now, chars id.now) at) }
 {
     order.binary_search_by(|place| compare_place(items, *place, tag, id))
 }
 
 /// How the message at a place compares with a tag and an id; past the last place it counts as less.
-fn compare_place(items: &[Arc<Item>], place: u32, tag: &Tag, id: &Text) -> Ordering
-    ensures { result ≡ place_cmp (names_in items.now) (tag.now, id.now) place }
+fn compare_place(items: &[Arc<Item>], place: u32, tag: &str, id: &str) -> Ordering
+    ensures { result ≡ place_cmp (names_in items.now) (chars tag.now, chars id.now) place }
 {
     match items.get(place as usize) {
         Some(item) => compare_names(item, tag, id),
@@ -43,7 +41,7 @@ pub fn place_of(items: &[Arc<Item>], order: &[u32], tag: &Tag, id: &Text) -> Opt
     requires { IsOrder (names_in items.now) order.now }
     ensures { result ≡ position (is_named tag.now id.now) (item_values items.now) }
 {
-    match search(items, order, tag, id) {
+    match search(items, order, tag.as_text().as_str(), id.as_str()) {
         Ok(at) => Some(order[at]),
         Err(_) => None,
     }
@@ -69,7 +67,7 @@ fn put_message(
     ensures below { OnOk result ((next : Name) → name_cmp (name_of (arc_value item)) next ≡ Less
         → AreBelow (names_in items.new.items) order.new.items next) }
 {
-    match search(items, rest, &item.tag, &item.id) {
+    match search(items, rest, item.tag(), item.id()) {
         Ok(at) => {
             let place = rest[at] as usize;
             items[place] = item;
@@ -84,29 +82,25 @@ fn put_message(
     }
 }
 
-/// Puts messages in, one after the other in the order of their ids, and answers the order of all.
+/// Puts messages in, one after the other in the order of their names, and answers the order of all.
 ///
 /// After an error the items mean nothing.
 pub fn put_messages(
     alloc: Global,
     items: &mut Vec<Arc<Item>>,
     order: &[u32],
-    tag: &Tag,
-    sources: &BTreeMap<&Text, &Text>,
+    new: &[Arc<Item>],
 ) -> Result<Vec<u32>, AllocError>
     requires order { IsOrder (names_in items.old.items) order.now }
-    requires sorted { IsStrictlySortedBy (λ a b. byte_cmp a.now b.now) (keys sources.now) }
-    requires room { let messages = map entry_pair sources.now.entries in
-        length (put_all (item_values items.old.items) tag.now messages) < 2 ^ 32 }
-    ensures items { let messages = map entry_pair sources.now.entries in
-        OnOk result (item_values items.new.items ≡ put_all (item_values items.old.items) tag.now messages) }
+    requires sorted { IsStrictlySortedBy name_cmp (names_in new.now) }
+    requires room { length (put_items (item_values items.old.items) (item_values new.now)) < 2 ^ 32 }
+    ensures items { OnOk result (item_values items.new.items ≡ put_items (item_values items.old.items) (item_values new.now)) }
     ensures order { IfOk result (λ merged. IsOrder (names_in items.new.items) merged.items) }
 {
     let mut merged = Vec::new(alloc);
     let mut moved = 0;
-    for (id, source) in sources {
-        let item = shared_item(alloc, tag, id, source)?;
-        moved += put_message(items, &mut merged, &order[moved..], item)?;
+    for item in new {
+        moved += put_message(items, &mut merged, &order[moved..], item.clone()?)?;
     }
     merged.extend_from_slice(&order[moved..])?;
     Ok(merged)

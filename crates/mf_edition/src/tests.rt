@@ -2,7 +2,7 @@ use super::*;
 use mf_locale::{LocaleRecord, SharedRecord, read_tag};
 use mf_numfmt::Layout;
 use mf_plural::Rules;
-use mf_text::{Direction, Pair, Pairs, Text};
+use mf_text::{Direction, Text};
 use std::alloc::Global;
 use std::fmt::Write;
 use std::test::Fail;
@@ -11,17 +11,11 @@ use std::test::Fail;
 type Messages = &'static [(&'static str, &'static str)];
 
 fn catalogue(alloc: Global, tag: &str, messages: Messages) -> Result<Change, Fail> {
-    let mut pairs = Pairs::new(alloc);
+    let mut catalogue = Catalogue::new(alloc, read_tag(alloc, tag)?, messages.len())?;
     for (id, source) in messages {
-        pairs.push(Pair {
-            name: Text::of(alloc, id)?,
-            value: Text::of(alloc, source)?,
-        })?;
+        catalogue.put(alloc, id, source)?;
     }
-    Ok(Change::Catalogue {
-        tag: read_tag(alloc, tag)?,
-        messages: pairs,
-    })
+    Ok(Change::Catalogue(catalogue))
 }
 
 /// The edition that publications make of the empty one.
@@ -53,13 +47,7 @@ fn listed(alloc: Global, edition: &Edition) -> Result<String, Fail> {
     let mut text = String::new(alloc);
     for index in 0..edition.len() {
         if let Some(item) = edition.item(index) {
-            write!(
-                text,
-                "{}/{}={} ",
-                item.tag.as_text().as_str(),
-                item.id.as_str(),
-                item.source.as_str()
-            )?;
+            write!(text, "{}/{}={} ", item.tag(), item.id(), item.source())?;
         }
     }
     Ok(text)
@@ -272,7 +260,7 @@ fn a_change_has_the_size_of_its_texts(rt: HostRuntime) -> Result<(), Fail> {
         ("en", &[], 66),
         ("en-GB", &[("a", "bc")], 72),
         ("en", &[("", ""), ("\u{e9}", "\u{1f600}")], 72),
-        ("en", &[("a", "b"), ("a", "c")], 70),
+        ("en", &[("a", "b"), ("a", "c")], 68),
     ];
     for (tag, messages, size) in rows {
         assert_eq!(rt; catalogue(rt.alloc(), tag, messages)?.size(), size);

@@ -2,7 +2,7 @@ use Rattle.std.proofs.Common.{length, ap, arith}
 use Rattle.std.proofs.lemmas.List.{length-map}
 use Rattle.std.specs.Arc.{arc_value}
 use Rattle.std.specs.Vec.Iter.{into_iter_items}
-use Rattle.mf_edition.specs.Views.{item_values}
+use Rattle.mf_edition.specs.Items.{item_values}
 use Rattle.mf_edition.proofs.InPlace.{length-put_items}
 use Rattle.mf_edition.proofs.in_place.put_all_in_place.Goals as goal
 

@@ -1,8 +1,9 @@
 use Rattle.std.proofs.Common.{◌≡◌, ◌≤◌, ◌+◌, length}
 use Rattle.std.specs.Vec.{vec_capacity, vec_len}
 use Rattle.std.specs.Vec.Iter.{into_iter_items}
+use Rattle.mf_edition.specs.Items.{item_values}
 use Rattle.mf_edition.specs.Order.{names_of, IsOrder}
-use Rattle.mf_edition.specs.Views.{item_values, put_items}
+use Rattle.mf_edition.specs.Views.{put_items}
 use Rattle.mf_edition.proofs.in_place.put_all_in_place.Given as goal
 
 abbrev pub invariant-loop-item : goal.invariant-loop-item

@@ -1,25 +1,25 @@
-use Rattle.std.proofs.Common.{◌++◌, ◌∷◌, [], set, ap, sym, ◌∙◌, subst}
+use Rattle.std.proofs.Common.{chars, ◌++◌, ◌∷◌, [], set, ap, sym, ◌∙◌, subst}
 use Rattle.std.proofs.lemmas.List.{get_or_default}
 use Rattle.std.specs.Arc.{arc_value}
 use Rattle.std.specs.List.{insert}
-use Rattle.mf_edition.specs.Order.{name_of, names_of, IsFound, IsGap, IsOrder}
-use Rattle.mf_edition.specs.Views.{item_values}
+use Rattle.mf_edition.specs.Items.{item_values}
+use Rattle.mf_edition.specs.Order.{name_of, names_of, IsFound, IsGap, IsOrder, Name}
 use Rattle.mf_edition.proofs.InPlace.{order_new, order_there, put_new, put_there}
 use Rattle.mf_edition.proofs.in_place.put_in_place.Goals as goal
 use Rattle.mf_edition.proofs.in_place.put_in_place.Goals.{In-Ok, In-Err}
 
--- what the search says of the lists that were handed in
+-- what the search, which is for the characters of the tag and the id, says of the lists that were handed in
 found : (c : In-Ok) → IsFound (names_of (item_values c.args.items.now.items)) c.args.order.now.items (name_of (arc_value c.args.item)) c.in-Ok.at
 found c =
-    subst (λ name. IsFound (names_of (item_values c.args.items.now.items)) c.args.order.now.items name c.in-Ok.at) (λ i. ((c.deref-3.ensures i).tag, (c.deref-4.ensures i).id))
-    (subst (λ order. IsFound (names_of (item_values c.args.items.now.items)) order (c.deref-3.result.now.tag, c.deref-4.result.now.id) c.in-Ok.at) c.deref-2.ensures.value
-    (subst (λ items. IsFound (names_of (item_values items)) c.deref-2.result.now (c.deref-3.result.now.tag, c.deref-4.result.now.id) c.in-Ok.at) c.deref.ensures.value c.in-Ok.ensures))
+    subst (λ (name : Name). IsFound (names_of (item_values c.args.items.now.items)) c.args.order.now.items name c.in-Ok.at) (λ i. ((c.tag.ensures.characters ∙ ap (λ item. item.tag) c.deref-3.ensures) i, (c.id.ensures.characters ∙ ap (λ item. item.id) c.deref-4.ensures) i))
+    (subst (λ order. IsFound (names_of (item_values c.args.items.now.items)) order (chars c.tag.result.now, chars c.id.result.now) c.in-Ok.at) c.deref-2.ensures.value
+    (subst (λ items. IsFound (names_of (item_values items)) c.deref-2.result.now (chars c.tag.result.now, chars c.id.result.now) c.in-Ok.at) c.deref.ensures.value c.in-Ok.ensures))
 
 gap : (c : In-Err) → IsGap (names_of (item_values c.args.items.now.items)) c.args.order.now.items (name_of (arc_value c.args.item)) c.in-Err.at
 gap c =
-    subst (λ name. IsGap (names_of (item_values c.args.items.now.items)) c.args.order.now.items name c.in-Err.at) (λ i. ((c.deref-3.ensures i).tag, (c.deref-4.ensures i).id))
-    (subst (λ order. IsGap (names_of (item_values c.args.items.now.items)) order (c.deref-3.result.now.tag, c.deref-4.result.now.id) c.in-Err.at) c.deref-2.ensures.value
-    (subst (λ items. IsGap (names_of (item_values items)) c.deref-2.result.now (c.deref-3.result.now.tag, c.deref-4.result.now.id) c.in-Err.at) c.deref.ensures.value c.in-Err.ensures))
+    subst (λ (name : Name). IsGap (names_of (item_values c.args.items.now.items)) c.args.order.now.items name c.in-Err.at) (λ i. ((c.tag.ensures.characters ∙ ap (λ item. item.tag) c.deref-3.ensures) i, (c.id.ensures.characters ∙ ap (λ item. item.id) c.deref-4.ensures) i))
+    (subst (λ order. IsGap (names_of (item_values c.args.items.now.items)) order (chars c.tag.result.now, chars c.id.result.now) c.in-Err.at) c.deref-2.ensures.value
+    (subst (λ items. IsGap (names_of (item_values items)) c.deref-2.result.now (chars c.tag.result.now, chars c.id.result.now) c.in-Err.at) c.deref.ensures.value c.in-Err.ensures))
 
 pub returns-in-Ok-clause-items : goal.returns-in-Ok-clause-items
 returns-in-Ok-clause-items c =

@@ -1,10 +1,10 @@
 -- A message that was found gets the new source; any other goes to the end of the items, and its place into the order.
-use Rattle.std.proofs.Common.{◌≡◌, ◌<◌, ◌+◌, ◌++◌, ◌∷◌, [], length, get_or, set, take, drop, ap, sym, ◌∙◌, subst, arith}
+use Rattle.std.proofs.Common.{◌≡◌, ◌<◌, ◌+◌, ◌++◌, ◌∷◌, [], length, get_or, set, take, drop, chars, ap, sym, ◌∙◌, subst, arith}
 use Rattle.std.proofs.lemmas.List.{get_or-append-add, length-map, map-append, map-set}
 use Rattle.std.specs.Arc.{arc_value}
 use Rattle.std.specs.List.{insert}
-use Rattle.mf_edition.specs.Order.{name_of, names_of, AreBelow, IsAscending, IsFound, IsGap, IsOrder}
-use Rattle.mf_edition.specs.Views.{item_values, message_of}
+use Rattle.mf_edition.specs.Items.{item_values, message_of}
+use Rattle.mf_edition.specs.Order.{name_of, names_of, AreBelow, IsAscending, IsFound, IsGap, IsOrder, Name}
 use Rattle.mf_edition.proofs.Merged.{moved_is, AreBelow-moved, AreBelow-next, IsAscending-rest, IsFound-rest, IsGap-rest}
 use Rattle.mf_edition.proofs.Placed.{found_first, found_inside, found_name, found_named, gap_unnamed, length-names, name_at-names, no_item}
 use Rattle.mf_edition.proofs.Pushed.{names_kept, names_pushed, order_pushed, put_found, put_gap}
@@ -16,17 +16,17 @@ search-requires c =
     subst (λ items. IsAscending (names_of (item_values items)) c.args.rest.now) (sym c.deref.ensures.value)
     (IsAscending-rest (names_of (item_values c.args.items.now.items)) c.args.order.now.items c.args.rest.now c.requires.order)
 
--- what the search says of the lists that were handed in
+-- what the search, which is for the characters of the tag and the id, says of the lists that were handed in
 found : (c : In-Ok) → IsFound (names_of (item_values c.args.items.now.items)) (c.args.order.now.items ++ c.args.rest.now) (name_of (arc_value c.args.item)) (length c.args.order.now.items + c.in-Ok.at)
 found c =
     IsFound-rest (names_of (item_values c.args.items.now.items)) c.args.order.now.items c.args.rest.now (name_of (arc_value c.args.item)) c.in-Ok.at
-    (subst (λ name. IsFound (names_of (item_values c.args.items.now.items)) c.args.rest.now name c.in-Ok.at) (λ i. ((c.deref-2.ensures i).tag, (c.deref-3.ensures i).id))
-    (subst (λ items. IsFound (names_of (item_values items)) c.args.rest.now (c.deref-2.result.now.tag, c.deref-3.result.now.id) c.in-Ok.at) c.deref.ensures.value c.in-Ok.ensures))
+    (subst (λ (name : Name). IsFound (names_of (item_values c.args.items.now.items)) c.args.rest.now name c.in-Ok.at) (λ i. ((c.tag.ensures.characters ∙ ap (λ item. item.tag) c.deref-2.ensures) i, (c.id.ensures.characters ∙ ap (λ item. item.id) c.deref-3.ensures) i))
+    (subst (λ items. IsFound (names_of (item_values items)) c.args.rest.now (chars c.tag.result.now, chars c.id.result.now) c.in-Ok.at) c.deref.ensures.value c.in-Ok.ensures))
 
 gap : (c : In-Err) → IsGap (names_of (item_values c.args.items.now.items)) c.args.rest.now (name_of (arc_value c.args.item)) c.in-Err.at
 gap c =
-    subst (λ name. IsGap (names_of (item_values c.args.items.now.items)) c.args.rest.now name c.in-Err.at) (λ i. ((c.deref-2.ensures i).tag, (c.deref-3.ensures i).id))
-    (subst (λ items. IsGap (names_of (item_values items)) c.args.rest.now (c.deref-2.result.now.tag, c.deref-3.result.now.id) c.in-Err.at) c.deref.ensures.value c.in-Err.ensures)
+    subst (λ (name : Name). IsGap (names_of (item_values c.args.items.now.items)) c.args.rest.now name c.in-Err.at) (λ i. ((c.tag.ensures.characters ∙ ap (λ item. item.tag) c.deref-2.ensures) i, (c.id.ensures.characters ∙ ap (λ item. item.id) c.deref-3.ensures) i))
+    (subst (λ items. IsGap (names_of (item_values items)) c.args.rest.now (chars c.tag.result.now, chars c.id.result.now) c.in-Err.at) c.deref.ensures.value c.in-Err.ensures)
 
 -- the place that was found
 place_is : (c : In-Ok) → get_or (c.args.order.now.items ++ c.args.rest.now) (length c.args.order.now.items + c.in-Ok.at) 0 ≡ get_or c.args.rest.now c.in-Ok.at 0

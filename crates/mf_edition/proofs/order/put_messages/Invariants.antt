@@ -1,19 +1,17 @@
 -- What is left to be put in makes the same of the messages so far, and its names are above those that are in order.
-use Rattle.std.proofs.Common.{◌≡◌, ◌++◌, ◌≤◌, drop, length, map}
+use Rattle.std.proofs.Common.{◌≡◌, ◌++◌, ◌≤◌, drop, length}
 use Rattle.std.specs.List.{AllByRecursion}
 use Rattle.std.specs.List.Sorted.{IsStrictlySortedBy}
-use Rattle.std.specs.Map.{keys_of}
-use Rattle.mf_text.specs.Order.{byte_cmp}
-use Rattle.mf_edition.specs.Edition.{put_all}
-use Rattle.mf_edition.specs.Order.{names_of, AreBelow, IsOrder}
-use Rattle.mf_edition.specs.Views.{entry_pair, item_values}
+use Rattle.mf_edition.specs.Items.{item_values}
+use Rattle.mf_edition.specs.Order.{name_cmp, names_of, AreBelow, IsOrder}
+use Rattle.mf_edition.specs.Views.{put_items}
 use Rattle.mf_edition.proofs.order.put_messages.Given as goal
 
-abbrev pub invariant-loop-id : goal.invariant-loop-id
-invariant-loop-id l = record {
+abbrev pub invariant-loop-item : goal.invariant-loop-item
+invariant-loop-item l = record {
   inside : l.moved ≤ length l.order;
   ordered : IsOrder (names_of (item_values l.items.items)) (l.merged.items ++ drop l.moved l.order);
-  sorted : IsStrictlySortedBy (λ a b. byte_cmp a.now b.now) (keys_of l.id-iterator);
-  below : AllByRecursion (λ id. AreBelow (names_of (item_values l.items.items)) l.merged.items (l.tag, id.now)) (keys_of l.id-iterator);
-  same : put_all (item_values l.items.items) l.tag (map entry_pair l.id-iterator) ≡ put_all (item_values l.fn.items.items) l.tag (map entry_pair l.fn.sources.entries);
+  sorted : IsStrictlySortedBy name_cmp (names_of (item_values (drop l.item-index l.new)));
+  below : AllByRecursion (AreBelow (names_of (item_values l.items.items)) l.merged.items) (names_of (item_values (drop l.item-index l.new)));
+  same : put_items (item_values l.items.items) (item_values (drop l.item-index l.new)) ≡ put_items (item_values l.fn.items.items) (item_values l.new);
 }

@@ -1,22 +1,25 @@
--- The items that were made are the messages in the order of their ids.
-use Rattle.std.proofs.Common.{◌≡◌, ◌<◌, ◌^◌, map, length, ap, sym, ◌∙◌, subst}
+-- The items of the publication are its messages, each of its tag.
+use Rattle.std.proofs.Common.{◌≡◌, ◌<◌, ◌^◌, length, ap, sym, ◌∙◌, subst}
 use Rattle.std.proofs.lemmas.List.{length-map}
 use Rattle.std.specs.Arc.{arc_value}
+use Rattle.mf_edition.specs.Catalogues.{Catalogue}
 use Rattle.mf_edition.specs.Edition.{put_all}
-use Rattle.mf_edition.specs.Messages.{in_byte_order}
-use Rattle.mf_edition.specs.Views.{item_of, item_values, put_items}
-use Rattle.mf_edition.proofs.InPlace.{put_items-made}
+use Rattle.mf_edition.specs.Items.{item_values}
+use Rattle.mf_edition.specs.Views.{put_items}
+use Rattle.mf_edition.proofs.Growth.{values_shared}
+use Rattle.mf_edition.proofs.InPlace.{put_items-kept}
 use Rattle.mf_edition.proofs.edition.Edition.put_messages.Goals as goal
 use Rattle.mf_edition.proofs.edition.Edition.put_messages.Goals.{In_ok-reserve}
 
 -- what comes of putting them in
-made : (c : In_ok-reserve) → put_items (item_values c.reserve.new.self.items) (item_values c.in_ok-new.new.items) ≡ put_all c.args.self.now.items c.args.tag.now (in_byte_order c.args.messages.now)
+made : (c : In_ok-reserve) → put_items (item_values c.reserve.new.self.items) (item_values c.in_ok-new.new.items) ≡ put_all c.args.self.now.items c.args.catalogue.now.tag c.args.catalogue.now.messages
 made c =
     let before = item_values c.self.inside.items.items in
     ap (λ items. put_items (item_values items) (item_values c.in_ok-new.new.items)) c.in_ok-reserve.ensures.items
-    ∙ ap (put_items before) (c.in_ok-new.ensures ∙ ap (map (item_of c.args.tag.now)) c.in_ok-sources.ensures.sources)
-    ∙ put_items-made before c.args.tag.now (in_byte_order c.args.messages.now)
-    ∙ ap (λ edition. put_all edition.items c.args.tag.now (in_byte_order c.args.messages.now)) c.self.view_is
+    ∙ ap (put_items before) (values_shared _ _ c.in_ok-new.ensures.cases.0)
+    ∙ put_items-kept before c.args.catalogue.now.tag (item_values c.items.result.now.items) c.items.ensures.catalogue
+    ∙ ap (λ (catalogue : Catalogue). put_all before catalogue.tag catalogue.messages) c.items.ensures.items
+    ∙ ap (λ edition. put_all edition.items c.args.catalogue.now.tag c.args.catalogue.now.messages) c.self.view_is
 
 pub put_all_in_place-requires-clause-few : goal.put_all_in_place-requires-clause-few
 put_all_in_place-requires-clause-few c =

@@ -3,9 +3,9 @@ use Rattle.std.proofs.Common.{length, ap, sym, ◌∙◌, subst, arith}
 use Rattle.std.proofs.lemmas.List.{length-map}
 use Rattle.std.specs.Arc.{arc_value}
 use Rattle.std.specs.List.{each_same}
+use Rattle.mf_edition.specs.Items.{item_values}
 use Rattle.mf_edition.specs.Order.{names_of, IsOrder}
 use Rattle.mf_edition.specs.Places.{put_place, AreAscending}
-use Rattle.mf_edition.specs.Views.{item_values}
 use Rattle.mf_edition.proofs.Growth.{values_shared}
 use Rattle.mf_edition.proofs.edition.Edition.with_place.Goals as goal
 
