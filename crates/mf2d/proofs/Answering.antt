@@ -12,7 +12,7 @@ use Rattle.mf_text.specs.declared.direction.Direction.TheVariants.{Ltr}
 use Rattle.mf_tree.specs.declared.pattern.Piece.{Piece}
 use Rattle.mf_parts.specs.Isolation.{isolated_part}
 use Rattle.mf_parts.specs.declared.part.Part.{Part}
-use Rattle.mf_edition.specs.declared.item.Item.{Item}
+use Rattle.mf_edition.specs.Items.{Item}
 use Rattle.mf2d.specs.Answers.{or_else, message_under, message_along, parts_of, piece_part}
 
 same_place : (within : Bool) (first place : ℕ) → Some place ≡ cond within (Some first) None → place ≡ first

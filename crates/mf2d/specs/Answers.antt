@@ -23,7 +23,7 @@ use Rattle.mf_parts.specs.declared.part.Part.{Part}
 use Rattle.mf_parts.specs.declared.part.Part.TheVariants as part
 use Rattle.mf_edition.specs.Edition.{is_named, edition_of}
 use Rattle.mf_edition.specs.declared.change.Entry.{Entry}
-use Rattle.mf_edition.specs.declared.item.Item.{Item}
+use Rattle.mf_edition.specs.Items.{Item}
 use Rattle.mf_lint.specs.declared.linting.Linted.{Linted}
 use Rattle.mf_lint.specs.declared.linting.Linted.TheVariants.{Valid, Invalid}
 use Rattle.mf_lint.specs.Lint.{lint_of}

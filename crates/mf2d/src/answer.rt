@@ -1,4 +1,4 @@
-ghost use Rattle.std.specs.Prelude.{◌≡◌, IfOk, option_and_then};
+ghost use Rattle.std.specs.Prelude.{◌≡◌, IfOk, chars, option_and_then};
 ghost use Rattle.std.specs.Option.{option_copied};
 ghost use Rattle.mf_locale.specs.Chain.{chain_of};
 ghost use Rattle.mf2d.specs.Answers.{answer_since, formatted, lone_pattern as the_lone_pattern, lone_variable as the_lone_variable, message_along, message_under, parts_of, piece_part, source_parts, variable_part as part_of_variable};
@@ -74,9 +74,9 @@ fn format(
 ) -> Result<Reply, AllocError>
     ensures { IfOk result (λ reply. reply ≡ formatted edition item.now.tag (source_parts arguments.now item.now.source)) }
 {
-    match message_parts(alloc, &item.source, arguments)? {
+    match message_parts(alloc, item.source(), arguments)? {
         Some(parts) if joined_len(&parts) <= LONGEST_TEXT => {
-            let tag = item.tag.clone()?;
+            let tag = Text::of(alloc, item.tag())?;
             Ok(Reply::Formatted {
                 edition,
                 tag,
@@ -90,12 +90,12 @@ fn format(
 /// The parts of a source, if it spells a flat message and each of its variables has an argument.
 fn message_parts(
     alloc: Global,
-    source: &Text,
+    source: &str,
     arguments: &Arguments,
 ) -> Result<Option<Parts>, AllocError>
-    ensures { IfOk result (λ parts. parts ≡ source_parts arguments.now source.now) }
+    ensures { IfOk result (λ parts. parts ≡ source_parts arguments.now (chars source.now)) }
 {
-    match parse(alloc, source.as_str()) {
+    match parse(alloc, source) {
         Ok(message) => pattern_parts(alloc, message, arguments),
         Err(ParseError::Syntax) => Ok(None),
         Err(ParseError::OutOfMemory) => Err(AllocError),

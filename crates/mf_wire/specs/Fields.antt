@@ -9,6 +9,8 @@ use Rattle.mf_text.specs.Arguments.{argument_named, with_argument}
 use Rattle.mf_text.specs.declared.arguments.Argued.{Argued}
 use Rattle.mf_text.specs.declared.arguments.Argued.TheVariants.{Text, Signed, Unsigned}
 use Rattle.mf_text.specs.declared.pair.Pair.{Pair}
+use Rattle.mf_edition.specs.Catalogues.{Catalogue}
+use Rattle.mf_edition.specs.Messages.{in_byte_order}
 use Rattle.mf_locale.specs.Tag.{is_tag, lower_case}
 
 -- the bytes of a field that is a text
@@ -35,9 +37,13 @@ object_field name request = option_and_then object_from (get name request)
 abbrev pub is_id : List ℕ → Bool
 is_id bytes = nat_le 1 (length bytes) && nat_le (length bytes) 256
 
+-- the message that the bytes of an id and of a source are
+abbrev pub message_with : List ℕ → List ℕ → Pair
+message_with id source = record { name = chars id; value = chars source }
+
 -- a message of a catalogue: an id, and a source that is a text
 abbrev pub message_from : List ℕ → Data → Option Pair
-message_from id source = if is_id id then option_map (λ bytes. record { name = chars id; value = chars bytes }) (as_str source) else None
+message_from id source = if is_id id then option_map (message_with id) (as_str source) else None
 
 -- the messages of a catalogue, none where one of them isn't a message
 abbrev pub messages_from : Members → Option (List Pair)
@@ -56,6 +62,10 @@ catalogue_from members = if is_catalogue_size (members_len members) then message
 -- a field that is a catalogue
 abbrev pub catalogue_field : List ℕ → Data → Option (List Pair)
 catalogue_field name request = option_and_then catalogue_from (option_and_then as_object (get name request))
+
+-- the messages of a catalogue with their tag, in the byte order of their ids
+abbrev pub tagged : List ℕ → List Pair → Catalogue
+tagged tag messages = record { tag = tag; messages = in_byte_order messages }
 
 -- a whole number that 64 bits without a sign hold
 abbrev pub whole_number : Data → Option ℕ

@@ -47,7 +47,7 @@ op_name Locale = codes "locale"
 
 -- what a change is a publication of
 abbrev pub op_of : Change → Op
-op_of (change.Catalogue tag messages) = Publish
+op_of (change.Catalogue catalogue) = Publish
 op_of (change.Locale tag place size) = Locale
 
 -- the object of a formatted message, whose text is its parts joined

@@ -1,5 +1,5 @@
 -- What a line asks for, or the reply that refuses it.
-use Rattle.std.specs.Prelude.{◌≡◌, ℕ, List, chars, codes, Option, Some, None, if◌then◌else◌, Result, Ok, Err}
+use Rattle.std.specs.Prelude.{◌≡◌, ℕ, List, chars, codes, Option, Some, None, option_map, if◌then◌else◌, Result, Ok, Err}
 use Rattle.std.specs.Str.{bytes_eq}
 use Rattle.serde_json.specs.Data.{Data}
 use Rattle.serde_json.specs.Find.{get}
@@ -7,7 +7,7 @@ use Rattle.mf_edition.specs.declared.change.Change.TheVariants.{Catalogue, Local
 use Rattle.mf_locale.specs.RecordFields.{RecordFault, bad_field, bad_rule}
 use Rattle.mf_locale.specs.RecordReading.{record_of}
 use Rattle.mf_locale.specs.declared.record.LocaleRecord.{LocaleRecord}
-use Rattle.mf_wire.specs.Fields.{string_field, tag_field, catalogue_field, object_field, arguments_of, since_of}
+use Rattle.mf_wire.specs.Fields.{string_field, tag_field, tagged, catalogue_field, object_field, arguments_of, since_of}
 use Rattle.mf_wire.specs.RecordSizes.{record_size}
 use Rattle.mf_wire.specs.Reading.{reading}
 use Rattle.mf_wire.specs.declared.field.Field.{Field}
@@ -25,12 +25,12 @@ abbrev pub need : {X : Type 0} → Field → Option X → (X → Result Request 
 need field None asked = Err (BadRequest field)
 need field (Some value) asked = asked value
 
--- a publication of messages: a tag and a catalogue
+-- a publication of messages: a tag and a catalogue, whose messages are of that tag
 abbrev pub publish_request : Data → Result Request Reply
 publish_request request =
     need field.Locale (tag_field (codes "locale") request)
-    (λ tag. need field.Messages (catalogue_field (codes "messages") request)
-    (λ messages. Ok (Publish (Catalogue tag messages))))
+    (λ tag. need field.Messages (option_map (tagged tag) (catalogue_field (codes "messages") request))
+    (λ catalogue. Ok (Publish (Catalogue catalogue))))
 
 -- the reply that refuses a record with this fault
 abbrev pub fault_reply : RecordFault → Reply

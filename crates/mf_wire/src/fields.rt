@@ -3,9 +3,11 @@ ghost use Rattle.std.specs.Option.{option_copied};
 ghost use Rattle.serde_json.specs.Find.{get};
 ghost use Rattle.serde_json.specs.View.{view, members_view};
 ghost use Rattle.mf_wire.specs.Fields as fields;
+ghost use Rattle.mf_wire.specs.Fields.{message_with};
 
+use mf_edition::Catalogue;
 use mf_locale::{LocaleError, Tag, read_tag};
-use mf_text::{Argued, Arguments, Pair, Pairs, Text, nfc};
+use mf_text::{Argued, Arguments, Text, nfc};
 use serde_json::{Map, Value};
 use std::alloc::{AllocError, Global};
 
@@ -50,26 +52,31 @@ pub(crate) fn object_field<'v>(object: &'v Value, name: &str) -> Option<&'v Valu
     }
 }
 
-/// A field that is a catalogue.
+/// A field that is a catalogue, whose messages are of this tag.
 pub(crate) fn catalogue_field(
     alloc: Global,
     object: &Value,
     name: &str,
-) -> Result<Option<Pairs>, AllocError>
-    ensures { IfOk result (λ messages. messages ≡ fields.catalogue_field name.now (view object.now)) }
+    tag: Tag,
+) -> Result<Option<Catalogue>, AllocError>
+    ensures { IfOk result (λ catalogue. catalogue ≡ option_map (fields.tagged tag) (fields.catalogue_field name.now (view object.now))) }
 {
     let Some(members) = object.get(name).and_then(Value::as_object) else {
         return Ok(None);
     };
-    catalogue(alloc, members)
+    catalogue(alloc, members, tag)
 }
 
 /// The catalogue that an object is.
-fn catalogue(alloc: Global, members: &Map<String, Value>) -> Result<Option<Pairs>, AllocError>
-    ensures { IfOk result (λ messages. messages ≡ fields.catalogue_from (members_view members.now.entries)) }
+fn catalogue(
+    alloc: Global,
+    members: &Map<String, Value>,
+    tag: Tag,
+) -> Result<Option<Catalogue>, AllocError>
+    ensures { IfOk result (λ catalogue. catalogue ≡ option_map (fields.tagged tag) (fields.catalogue_from (members_view members.now.entries))) }
 {
     if is_catalogue_size(members.len()) {
-        messages(alloc, members)
+        messages(alloc, members, tag)
     } else {
         Ok(None)
     }
@@ -83,32 +90,31 @@ fn is_catalogue_size(count: usize) -> bool
 }
 
 /// The messages of a catalogue.
-fn messages(alloc: Global, members: &Map<String, Value>) -> Result<Option<Pairs>, AllocError>
-    ensures { IfOk result (λ messages. messages ≡ fields.messages_from (members_view members.now.entries)) }
+fn messages(
+    alloc: Global,
+    members: &Map<String, Value>,
+    tag: Tag,
+) -> Result<Option<Catalogue>, AllocError>
+    ensures { IfOk result (λ catalogue. catalogue ≡ option_map (fields.tagged tag) (fields.messages_from (members_view members.now.entries))) }
 {
-    let mut messages = Pairs::with_capacity(alloc, members.len())?;
-    for (id, source) in members {
-        let Some(message) = message(alloc, id.as_str(), source)? else {
+    let mut catalogue = Catalogue::new(alloc, tag, members.len())?;
+    for (id, value) in members {
+        let Some(source) = source(id.as_str(), value) else {
             return Ok(None);
         };
-        messages.push(message)?;
+        catalogue.put(alloc, id.as_str(), source)?;
     }
-    Ok(Some(messages))
+    Ok(Some(catalogue))
 }
 
-/// A message of a catalogue.
-fn message(alloc: Global, id: &str, source: &Value) -> Result<Option<Pair>, AllocError>
-    ensures { IfOk result (λ message. message ≡ fields.message_from id.now (view source.now)) }
+/// The source of the message of an id.
+fn source<'v>(id: &str, value: &'v Value) -> Option<&'v str>
+    ensures { option_map (message_with id.now) (option_copied result) ≡ fields.message_from id.now (view value.now) }
 {
     if id.is_empty() || id.len() > LONGEST_ID {
-        return Ok(None);
+        return None;
     }
-    let Some(source) = source.as_str() else {
-        return Ok(None);
-    };
-    let name = Text::of(alloc, id)?;
-    let value = Text::of(alloc, source)?;
-    Ok(Some(Pair { name, value }))
+    value.as_str()
 }
 
 /// The arguments of a field.

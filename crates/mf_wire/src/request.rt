@@ -86,12 +86,12 @@ fn publication(alloc: Global, value: &Value) -> Result<Request, WireError>
             field: Field::Locale,
         });
     };
-    let Some(messages) = catalogue_field(alloc, value, "messages")? else {
+    let Some(catalogue) = catalogue_field(alloc, value, "messages", tag)? else {
         return Err(WireError::BadRequest {
             field: Field::Messages,
         });
     };
-    Ok(Request::Publish(Change::Catalogue { tag, messages }))
+    Ok(Request::Publish(Change::Catalogue(catalogue)))
 }
 
 /// A publication of a locale record.

@@ -9,7 +9,7 @@ ghost use Rattle.mf_wire.specs.Writing.{Writes, WritesMember, accepted_data, bad
 use crate::field::Field;
 use crate::reply::{Op, Reply};
 use json::Writer;
-use mf_locale::{RecordField, Tag};
+use mf_locale::RecordField;
 use mf_parts::{Part, Parts, joined, joined_len};
 use mf_text::Text;
 use mf_tree::{Fault, Faults};
@@ -236,7 +236,7 @@ fn write_formatted(
     alloc: Global,
     out: &mut Writer,
     edition: u64,
-    tag: &Tag,
+    tag: &Text,
     parts: &Parts,
 ) -> Result<(), AllocError>
     ensures { OnOk result (Writes (formatted_data edition tag.now parts.now) out.old out.new) }
@@ -244,7 +244,7 @@ fn write_formatted(
     out.begin_object()?;
     write_number(out, "edition", edition)?;
     write_no_errors(out)?;
-    write_text(out, "locale", tag.as_text().as_str())?;
+    write_text(out, "locale", tag.as_str())?;
     write_text(out, "ok", "format")?;
     out.key("parts")?;
     write_parts(out, parts)?;

@@ -1,4 +1,4 @@
-use Rattle.std.proofs.Common.{◌∙◌, ap, codes, encode_utf8_all, subst}
+use Rattle.std.proofs.Common.{codes, subst}
 use Rattle.serde_json.specs.Data.{string}
 use Rattle.mf_wire.specs.Writing.{WritesMember}
 use Rattle.mf_wire.proofs.Objects.{keyed, next, whole}
@@ -7,7 +7,7 @@ use Rattle.mf_wire.proofs.writing.write_formatted.Goals as goal
 pub returns : goal.returns
 returns c =
     let locale = subst (λ text. WritesMember (codes "locale") (string text) c.write_no_errors.new.out c.write_text.new.out)
-    (c.as_str.ensures.bytes ∙ ap encode_utf8_all c.as_text.ensures.text) c.in_ok-write_text.ensures in
+    c.as_str.ensures.bytes c.in_ok-write_text.ensures in
     whole c.in_ok-begin_object.ensures c.end_object.ensures (λ closed.
     next c.in_ok-write_number.ensures (next c.in_ok-write_no_errors.ensures (next locale
     (next c.in_ok-write_text-2.ensures (next (keyed c.in_ok-key.ensures c.in_ok-write_parts.ensures) (next c.in_ok-write_joined.ensures closed))))))
