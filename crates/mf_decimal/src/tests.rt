@@ -1,6 +1,7 @@
 //! Worked values from outside the definitions.
 
-use crate::{Digits, NumberError, of_i64, of_u64, read};
+use crate::{Digits, NumberError, Shown, of_i64, of_u64, read};
+use std::process::Abort;
 use std::test::Fail;
 
 #[test]
@@ -98,155 +99,132 @@ fn a_number_past_36_digits_is_too_wide(rt: HostRuntime) {
     }
 }
 
+/// The digits that are shown: whether they are below zero, the whole ones, those of the fraction, and how many these are.
+type Rounded = (bool, u128, u128, u32);
+
+fn assert_rounded(rt: &impl Abort, text: &str, shown: Shown, expected: Rounded) {
+    let rounded = (
+        shown.negative,
+        shown.whole,
+        shown.fraction,
+        shown.fraction_len,
+    );
+    assert_eq!(rt; rounded, expected, "{text}");
+}
+
 #[test]
 fn fraction_digits_are_rounded_to_even(rt: HostRuntime) -> Result<(), Fail> {
-    for (text, min, max, negative, whole, fraction, fraction_len) in [
-        ("1234.5", 0, 3, false, 1234, 5, 1),
-        ("1234", 0, 3, false, 1234, 0, 0),
-        ("5", 0, 3, false, 5, 0, 0),
-        ("2.5", 0, 0, false, 2, 0, 0),
-        ("3.5", 0, 0, false, 4, 0, 0),
-        ("-0.4", 0, 0, false, 0, 0, 0),
-        ("0.5", 0, 0, false, 0, 0, 0),
-        ("1.5", 0, 0, false, 2, 0, 0),
-        ("-2.5", 0, 0, true, 2, 0, 0),
-        ("-1.9", 0, 0, true, 2, 0, 0),
-        ("0.25", 0, 1, false, 0, 2, 1),
-        ("0.35", 0, 1, false, 0, 4, 1),
-        ("0.251", 0, 1, false, 0, 3, 1),
-        ("0.249", 0, 1, false, 0, 2, 1),
-        ("-0.0005", 0, 3, false, 0, 0, 0),
-        ("-0.0015", 0, 3, true, 0, 2, 3),
-        ("1.5", 2, 3, false, 1, 50, 2),
-        ("1", 2, 2, false, 1, 0, 2),
-        ("1.999", 0, 2, false, 2, 0, 0),
-        ("1.999", 1, 2, false, 2, 0, 1),
-        ("-0.9996", 2, 3, true, 1, 0, 2),
+    for (text, (min, max), expected) in [
+        ("1234.5", (0, 3), (false, 1234, 5, 1)),
+        ("1234", (0, 3), (false, 1234, 0, 0)),
+        ("5", (0, 3), (false, 5, 0, 0)),
+        ("2.5", (0, 0), (false, 2, 0, 0)),
+        ("3.5", (0, 0), (false, 4, 0, 0)),
+        ("-0.4", (0, 0), (false, 0, 0, 0)),
+        ("0.5", (0, 0), (false, 0, 0, 0)),
+        ("1.5", (0, 0), (false, 2, 0, 0)),
+        ("-2.5", (0, 0), (true, 2, 0, 0)),
+        ("-1.9", (0, 0), (true, 2, 0, 0)),
+        ("0.25", (0, 1), (false, 0, 2, 1)),
+        ("0.35", (0, 1), (false, 0, 4, 1)),
+        ("0.251", (0, 1), (false, 0, 3, 1)),
+        ("0.249", (0, 1), (false, 0, 2, 1)),
+        ("-0.0005", (0, 3), (false, 0, 0, 0)),
+        ("-0.0015", (0, 3), (true, 0, 2, 3)),
+        ("1.5", (2, 3), (false, 1, 50, 2)),
+        ("1", (2, 2), (false, 1, 0, 2)),
+        ("1.999", (0, 2), (false, 2, 0, 0)),
+        ("1.999", (1, 2), (false, 2, 0, 1)),
+        ("-0.9996", (2, 3), (true, 1, 0, 2)),
+    ] {
+        assert!(rt; min <= max && max <= 20, "the digits for {text}");
+        let shown = read(text)?.round(Digits::Fraction { min, max });
+        assert_rounded(&rt, text, shown, expected);
+    }
+    Ok(())
+}
+
+#[test]
+fn fraction_digits_of_long_numbers_are_rounded_to_even(rt: HostRuntime) -> Result<(), Fail> {
+    for (text, (min, max), expected) in [
         (
             "0.999999999999999999999999999999999999",
-            20,
-            20,
-            false,
-            1,
-            0,
-            20,
+            (20, 20),
+            (false, 1, 0, 20),
         ),
         (
             "-999999999999999999.999999999999999999",
-            0,
-            3,
-            true,
-            1000000000000000000,
-            0,
-            0,
+            (0, 3),
+            (true, 1000000000000000000, 0, 0),
         ),
         (
             "0.123456789012345678901234567890123456",
-            20,
-            20,
-            false,
-            0,
-            12345678901234567890,
-            20,
+            (20, 20),
+            (false, 0, 12345678901234567890, 20),
         ),
         (
             "123456789012345678.901234567890123456",
-            20,
-            20,
-            false,
-            123456789012345678,
-            90123456789012345600,
-            20,
+            (20, 20),
+            (false, 123456789012345678, 90123456789012345600, 20),
         ),
         (
             "99999999999999999999999999999999999.5",
-            0,
-            0,
-            false,
-            100000000000000000000000000000000000,
-            0,
-            0,
+            (0, 0),
+            (false, 100000000000000000000000000000000000, 0, 0),
         ),
         (
             "99999999999999999999999999999999998.5",
-            0,
-            0,
-            false,
-            99999999999999999999999999999999998,
-            0,
-            0,
+            (0, 0),
+            (false, 99999999999999999999999999999999998, 0, 0),
         ),
         (
             "999999999999999999999999999999999999",
-            20,
-            20,
-            false,
-            999999999999999999999999999999999999,
-            0,
-            20,
+            (20, 20),
+            (false, 999999999999999999999999999999999999, 0, 20),
         ),
     ] {
         assert!(rt; min <= max && max <= 20, "the digits for {text}");
         let shown = read(text)?.round(Digits::Fraction { min, max });
-        assert_eq!(rt; shown.negative, negative, "the sign of {text}");
-        assert_eq!(rt; shown.whole, whole, "the whole digits of {text}");
-        assert_eq!(rt; shown.fraction, fraction, "the fraction of {text}");
-        assert_eq!(rt;
-            shown.fraction_len,
-            fraction_len,
-            "the fraction's length of {text}"
-        );
+        assert_rounded(&rt, text, shown, expected);
     }
     Ok(())
 }
 
 #[test]
 fn significant_digits_are_rounded_to_even(rt: HostRuntime) -> Result<(), Fail> {
-    for (text, min, max, negative, whole, fraction, fraction_len) in [
-        ("999.96", 1, 4, false, 1000, 0, 0),
-        ("999.96", 4, 4, false, 1000, 0, 0),
-        ("999.96", 1, 5, false, 999, 96, 2),
-        ("999.96", 5, 21, false, 999, 96, 2),
-        ("25", 1, 1, false, 20, 0, 0),
-        ("35", 1, 1, false, 40, 0, 0),
-        ("-450", 1, 1, true, 400, 0, 0),
-        ("-450.1", 1, 1, true, 500, 0, 0),
-        ("0.025", 1, 1, false, 0, 2, 2),
-        ("0.035", 1, 1, false, 0, 4, 2),
-        ("1", 3, 3, false, 1, 0, 2),
-        ("0", 3, 21, false, 0, 0, 2),
-        ("0", 1, 1, false, 0, 0, 0),
-        ("1234", 2, 2, false, 1200, 0, 0),
-        ("0.00999", 1, 1, false, 0, 1, 2),
-        ("0.0999", 2, 2, false, 0, 10, 2),
-        ("0.0999", 5, 6, false, 0, 99900, 6),
-        ("1e-36", 21, 21, false, 0, 100000000000000000000, 56),
+    for (text, (min, max), expected) in [
+        ("999.96", (1, 4), (false, 1000, 0, 0)),
+        ("999.96", (4, 4), (false, 1000, 0, 0)),
+        ("999.96", (1, 5), (false, 999, 96, 2)),
+        ("999.96", (5, 21), (false, 999, 96, 2)),
+        ("25", (1, 1), (false, 20, 0, 0)),
+        ("35", (1, 1), (false, 40, 0, 0)),
+        ("-450", (1, 1), (true, 400, 0, 0)),
+        ("-450.1", (1, 1), (true, 500, 0, 0)),
+        ("0.025", (1, 1), (false, 0, 2, 2)),
+        ("0.035", (1, 1), (false, 0, 4, 2)),
+        ("1", (3, 3), (false, 1, 0, 2)),
+        ("0", (3, 21), (false, 0, 0, 2)),
+        ("0", (1, 1), (false, 0, 0, 0)),
+        ("1234", (2, 2), (false, 1200, 0, 0)),
+        ("0.00999", (1, 1), (false, 0, 1, 2)),
+        ("0.0999", (2, 2), (false, 0, 10, 2)),
+        ("0.0999", (5, 6), (false, 0, 99900, 6)),
+        ("1e-36", (21, 21), (false, 0, 100000000000000000000, 56)),
         (
             "999999999999999999999999999999999999",
-            1,
-            21,
-            false,
-            1000000000000000000000000000000000000,
-            0,
-            0,
+            (1, 21),
+            (false, 1000000000000000000000000000000000000, 0, 0),
         ),
         (
             "1e35",
-            21,
-            21,
-            false,
-            100000000000000000000000000000000000,
-            0,
-            0,
+            (21, 21),
+            (false, 100000000000000000000000000000000000, 0, 0),
         ),
         (
             "0.999999999999999999999999999999999999",
-            1,
-            21,
-            false,
-            1,
-            0,
-            0,
+            (1, 21),
+            (false, 1, 0, 0),
         ),
     ] {
         assert!(rt;
@@ -254,14 +232,7 @@ fn significant_digits_are_rounded_to_even(rt: HostRuntime) -> Result<(), Fail> {
             "the digits for {text}"
         );
         let shown = read(text)?.round(Digits::Significant { min, max });
-        assert_eq!(rt; shown.negative, negative, "the sign of {text}");
-        assert_eq!(rt; shown.whole, whole, "the whole digits of {text}");
-        assert_eq!(rt; shown.fraction, fraction, "the fraction of {text}");
-        assert_eq!(rt;
-            shown.fraction_len,
-            fraction_len,
-            "the fraction's length of {text}"
-        );
+        assert_rounded(&rt, text, shown, expected);
     }
     Ok(())
 }

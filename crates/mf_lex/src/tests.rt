@@ -285,6 +285,22 @@ fn an_escape_spells_its_second_character(rt: HostRuntime) -> Result<(), Fail> {
 }
 
 #[test]
+fn a_run_of_a_text_is_the_longest_one(rt: HostRuntime) {
+    for (text, run, left) in [
+        ("", "", ""),
+        ("a|\u{3000}\u{e9}.", "a|\u{3000}\u{e9}.", ""),
+        ("a\\{", "a", "\\{"),
+        ("a{b", "a", "{b"),
+        ("}", "", "}"),
+        ("ab\0c", "ab", "\0c"),
+    ] {
+        let mut cursor = Cursor::new(text);
+        assert_eq!(rt; cursor.text_run(), run, "{text}");
+        assert!(rt; left_of(&cursor, text, left), "{text}");
+    }
+}
+
+#[test]
 fn one_character_and_the_way_back(rt: HostRuntime) -> Result<(), Fail> {
     let mut cursor = Cursor::new("\u{e9}{x");
     assert!(rt; !cursor.one('{') && cursor.at() == 0);
