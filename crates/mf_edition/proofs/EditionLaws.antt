@@ -12,7 +12,8 @@ use Rattle.mf_edition.specs.Edition.{changed, edition_after, empty_edition, edit
 use Rattle.mf_edition.specs.Order.{name_of, names_of, Name}
 use Rattle.mf_edition.specs.Places.{AreAscending}
 use Rattle.mf_edition.proofs.Growth.{length-changed}
-use Rattle.mf_edition.proofs.PlacesAscend.{ascending_none, AreAscending-put_place, HasDistinctTags-ascending}
+use Rattle.mf_edition.proofs.PlaceSearch.{AreAscending-put_place}
+use Rattle.mf_edition.proofs.PlacesAscend.{ascending_none, HasDistinctTags-ascending}
 
 -- a name that none of the items has
 Lacks : Name → List Item → Type 0

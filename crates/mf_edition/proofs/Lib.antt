@@ -1,4 +1,5 @@
 pub mod Cut
+pub mod Ordered
 pub mod ItemSearch
 pub mod Placed
 pub mod Searched

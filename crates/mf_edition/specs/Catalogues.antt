@@ -1,15 +1,13 @@
 -- The messages of a publication, which the log and its editions share.
-use Rattle.std.specs.Prelude.{◌≡◌, ◌<◌, ◌≤◌, ℕ, List, [], ◌∷◌, length, map}
+use Rattle.std.specs.Prelude.{◌≡◌, ℕ, List, map}
 use Rattle.std.specs.Arc.{arc_value}
-use Rattle.std.specs.List.{AllWithin, HoldsAt}
 use Rattle.std.specs.List.Sorted.{IsStrictlySortedBy}
-use Rattle.std.specs.Ordering.{match_ordering}
 use Rattle.std.specs.declared.alloc.Global.{Global}
 use Rattle.std.specs.declared.cmp.Ordering.{Ordering}
-use Rattle.std.specs.declared.cmp.Ordering.TheVariants.{Less, Equal, Greater}
 use Rattle.std.specs.declared.sync.Arc.{Arc}
 use Rattle.mf_text.specs.Order.{byte_cmp}
 use Rattle.mf_text.specs.declared.pair.Pair.{Pair}
+use Rattle.mf_edition.specs.Ordered.{put_ordered, LacksAt, StandsAt}
 use Rattle.mf_edition.specs.Items.{Item, item_of, message_of}
 
 -- a publication of messages: their tag, and the messages in the byte order of their ids
@@ -32,21 +30,16 @@ pub record IsCatalogue (tag : List ℕ) (items : List Item) : Type 0 where
 
 -- an item among items that are in the byte order of their ids: of two with one id the later one counts
 abbrev pub insert_item : Item → List Item → List Item
-insert_item item [] = item ∷ []
-insert_item item (next ∷ more) = match_ordering (byte_cmp item.id next.id) (item ∷ next ∷ more) (item ∷ more) (next ∷ insert_item item more)
+insert_item item items = put_ordered (λ a b. byte_cmp a.id b.id) item items
 
 -- how the id of a shared item compares with this one
 abbrev pub compared : List ℕ → Arc Item Global → Ordering
 compared id item = byte_cmp (arc_value item).id id
 
 -- the item that stands there has this id, and those before it have lower ones
-pub record IsItemAt (items : List (Arc Item Global)) (id : List ℕ) (at : ℕ) : Type 0 where
-  pub inside : at < length items
-  pub before : AllWithin (λ item. compared id item ≡ Less) items 0 at
-  pub equal : HoldsAt (λ item. compared id item ≡ Equal) items at
+abbrev pub IsItemAt : List (Arc Item Global) → List ℕ → ℕ → Type 0
+IsItemAt items id at = StandsAt (compared id) items at
 
 -- no item has this id, and one that had it would have to stand there
-pub record IsItemGap (items : List (Arc Item Global)) (id : List ℕ) (at : ℕ) : Type 0 where
-  pub within : at ≤ length items
-  pub before : AllWithin (λ item. compared id item ≡ Less) items 0 at
-  pub after : AllWithin (λ item. compared id item ≡ Greater) items at (length items)
+abbrev pub IsItemGap : List (Arc Item Global) → List ℕ → ℕ → Type 0
+IsItemGap items id at = LacksAt (compared id) items at

@@ -1,3 +1,4 @@
+pub mod Ordered
 pub mod Items
 pub mod Catalogues
 pub mod Edition

@@ -1,14 +1,12 @@
 -- The messages of a publication, in the order in which they are kept and put into an edition.
 use Rattle.std.specs.Prelude.{List, [], ◌∷◌}
-use Rattle.std.specs.Ordering.{match_ordering}
 use Rattle.mf_text.specs.Order.{byte_cmp}
 use Rattle.mf_text.specs.declared.pair.Pair.{Pair}
+use Rattle.mf_edition.specs.Ordered.{put_ordered}
 
 -- a message among messages that are in the byte order of their ids: of two with one id the later one counts
 abbrev pub insert_message : Pair → List Pair → List Pair
-insert_message message [] = message ∷ []
-insert_message message (next ∷ more) =
-    match_ordering (byte_cmp message.name next.name) (message ∷ next ∷ more) (message ∷ more) (next ∷ insert_message message more)
+insert_message message messages = put_ordered (λ a b. byte_cmp a.name b.name) message messages
 
 -- messages one after the other among those that are in order already
 abbrev pub insert_messages : List Pair → List Pair → List Pair

@@ -3,11 +3,12 @@ use Rattle.std.specs.Prelude.{◌==◌, ℕ, Bool, Option, None, Some, List, [],
 use Rattle.std.specs.Cmp.Lexicographic.{pointwise, slice_cmp}
 use Rattle.std.specs.List.Sorted.{IsStrictlySortedBy}
 use Rattle.std.specs.Option.{option_or, unwrap_or}
-use Rattle.std.specs.Ordering.{match_ordering, nat_cmp}
+use Rattle.std.specs.Ordering.{nat_cmp}
 use Rattle.std.specs.declared.cmp.Ordering.{Ordering}
 use Rattle.mf_locale.specs.Chain.{chain_of}
 use Rattle.mf_locale.specs.Records.{root_record}
 use Rattle.mf_locale.specs.declared.record.LocaleRecord.{LocaleRecord}
+use Rattle.mf_edition.specs.Ordered.{put_ordered}
 use Rattle.mf_edition.specs.declared.place.Place.{Place}
 
 -- the record is that of this tag
@@ -20,9 +21,7 @@ tag_cmp a b = slice_cmp nat_cmp a b
 
 -- puts the record of a tag into the list of records, which are in the order of their tags: it takes the place of that of its tag, or goes before that of the next higher tag
 abbrev pub put_place : List Place → Place → List Place
-put_place [] new = new ∷ []
-put_place (place ∷ places) new =
-    match_ordering (tag_cmp new.tag place.tag) (new ∷ place ∷ places) (new ∷ places) (place ∷ put_place places new)
+put_place places new = put_ordered (λ a b. tag_cmp a.tag b.tag) new places
 
 -- the records are in the order of their tags, each tag once
 abbrev pub AreAscending : List Place → Type 0

@@ -4,8 +4,7 @@ use Rattle.mf_locale.proofs.Truncations.{encode-IsLowerTag}
 use Rattle.mf_edition.specs.PlaceOrder.{IsRecordAt, IsRecordGap}
 use Rattle.mf_edition.specs.Places.{AreAscending}
 use Rattle.mf_edition.specs.Views.{place_values}
-use Rattle.mf_edition.proofs.PlaceSearch.{put_found, put_gap}
-use Rattle.mf_edition.proofs.PlacesAscend.{AreAscending-put_place}
+use Rattle.mf_edition.proofs.PlaceSearch.{put_found, put_gap, AreAscending-put_place}
 use Rattle.mf_edition.proofs.place.put_place.Goals as goal
 use Rattle.mf_edition.proofs.place.put_place.Goals.{After-search}
 
