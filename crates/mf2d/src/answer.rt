@@ -15,6 +15,9 @@ use std::alloc::{AllocError, Global};
 /// The most bytes that the text of a formatted message may have.
 const LONGEST_TEXT: u64 = 16_777_216;
 
+/// The most parts that a piece has: the one between two marks.
+const MOST_PARTS: usize = 3;
+
 /// The answer of an edition to a request for the message of an id, looked up along the chain of a tag, in an edition of
 /// at least the number `since`.
 pub(crate) fn answer(
@@ -131,7 +134,7 @@ fn lone_pattern(message: Message) -> Option<Pattern>
 fn parts(alloc: Global, pieces: Pattern, arguments: &Arguments) -> Result<Option<Parts>, AllocError>
     ensures { IfOk result (λ parts. parts ≡ parts_of arguments.now pieces) }
 {
-    let mut parts = Parts::new(alloc);
+    let mut parts = Parts::with_capacity(alloc, pieces.len().saturating_mul(MOST_PARTS))?;
     for piece in pieces.into_members() {
         let Some(part) = part(piece, arguments)? else {
             return Ok(None);

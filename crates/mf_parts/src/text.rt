@@ -9,7 +9,7 @@ use std::alloc::{AllocError, Global};
 pub fn joined(alloc: Global, parts: &Parts) -> Result<Text, AllocError>
     ensures { IfOk result (λ text. text ≡ text_of parts.now) }
 {
-    let mut text = String::new(alloc);
+    let mut text = String::with_capacity(alloc, joined_len(parts) as usize)?;
     for part in parts.as_slice() {
         push_part(&mut text, part)?;
     }
