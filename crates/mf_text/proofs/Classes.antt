@@ -1,5 +1,5 @@
 -- Classes of characters that have none in common.
-use Rattle.std.proofs.Common.{◌≡◌, ◌<◌, ◌≤◌, ℕ, suc, Bool, true, false, ◌&&◌, ◌||◌, nat_lt, List, [], ◌∷◌, refl, sym, ◌∙◌, inl, inr, ◌⊎◌, arith}
+use Rattle.std.proofs.Common.{◌≡◌, ℕ, suc, Bool, true, false, ◌&&◌, ◌||◌, [], ◌∷◌, refl, inl, inr, arith}
 use Rattle.std.proofs.lemmas.Bool.{and_parts, or_cases, cases_Bool, leb-true, false≢true}
 use Rattle.std.specs.Prelude.{nat_le}
 use Rattle.mf_text.specs.Characters.{Table, is_in, ws, bidi, name_start_below, name_start_above, name_rest, is_ws, is_bidi, is_space, is_name_start, is_name_char}

@@ -1,5 +1,5 @@
 -- A test that holds where either of two tests does.
-use Rattle.std.proofs.Common.{◌≡◌, Bool, true, false, ◌||◌, refl, sym, ◌∙◌}
+use Rattle.std.proofs.Common.{◌≡◌, Bool, true, false, ◌||◌}
 
 pub first_holds : (first second found : Bool) → found ≡ first → found ≡ true → found ≡ (first || second)
 first_holds true second found is holds = holds

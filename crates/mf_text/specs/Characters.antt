@@ -1,5 +1,5 @@
 -- The classes of characters of a message (Unicode TS 35, Part 9, "Message syntax").
-use Rattle.std.specs.Prelude.{ℕ, Bool, false, ◌&&◌, ◌||◌, not, nat_le, List, [], ◌∷◌, ◌++◌}
+use Rattle.std.specs.Prelude.{ℕ, Bool, false, ◌&&◌, ◌||◌, not, nat_le, List, [], ◌∷◌}
 
 -- a table of code points: the first and the last of each range
 abbrev pub Table : Type 0

@@ -1,8 +1,9 @@
-ghost use Rattle.std.specs.Prelude.{◌≡◌, ◌↔◌, [], length, IsTrue, OnOk, OnErr};
+ghost use Rattle.std.specs.Prelude.{◌≡◌, ◌↔◌, [], None, Some, chars, length, IfOk, IsTrue, MatchBool, OnErr};
 ghost use Rattle.std.specs.Option.{option_copied};
-ghost use Rattle.mf_text.specs.Arguments.{argument_named, with_argument};
+ghost use Rattle.unicode_normalization.specs.Forms.{nfc as nfc_of};
+ghost use Rattle.mf_text.specs.Arguments.{argument_named, with_new_argument, AreNormal};
 
-use crate::Text;
+use crate::{Text, nfc};
 use std::alloc::{AllocError, Global};
 use std::collections::BTreeMap;
 use std::marker::Model;
@@ -17,8 +18,8 @@ pub enum Argued {
     Unsigned(u64),
 }
 
-/// The arguments of a request, seen as the list of their names and values in the byte order of the names. No two
-/// have one name.
+/// The arguments of a request, seen as the list of their names and values in the byte order of the names. The names are in
+/// Normalization Form C (Unicode Standard Annex 15), and no two arguments have one name.
 #[derive(Debug, Drop)]
 pub struct Arguments {
     named: BTreeMap<Text, Argued>,
@@ -30,7 +31,11 @@ impl Model for Arguments {
 
     ghost Value = { List (List ℕ × Argued) };
 
+    ghost use Rattle.mf_text.specs.Arguments.{AreNormal};
+
     ghost view = { λ a. a.named.entries };
+
+    ghost invariant = { λ a. AreNormal a.named.entries };
 }
 
 impl Arguments {
@@ -59,17 +64,25 @@ impl Arguments {
 
     /// The value of the argument with a name, if there is one.
     pub fn find(&self, name: &Text) -> Option<&Argued>
-        ensures { option_copied result ≡ argument_named self.now name.now }
+        ensures value { option_copied result ≡ argument_named self.now name.now }
+        ensures normal { AreNormal self.now }
     {
         self.named.get(name)
     }
 
-    /// Gives a name its value, in place of the value that it had.
-    pub fn set(&mut self, name: Text, value: Argued) -> Result<(), AllocError>
-        ensures ok { OnOk result (self.new ≡ with_argument self.old name value) }
+    /// Gives a name, taken in Normalization Form C, its value, and answers `true`. Where the name has a value already
+    /// nothing is changed, and the answer is `false`.
+    pub fn insert(&mut self, alloc: Global, name: &str, value: Argued) -> Result<bool, AllocError>
+        ensures ok { IfOk result (λ is_new. MatchBool is_new
+            (with_new_argument self.old (nfc_of (chars name.now)) value ≡ Some self.new)
+            ((with_new_argument self.old (nfc_of (chars name.now)) value ≡ None) × (self.new ≡ self.old))) }
         ensures err { OnErr result (self.new ≡ self.old) }
     {
+        let name = nfc(alloc, name)?;
+        if self.named.contains_key(&name) {
+            return Ok(false);
+        }
         self.named.insert(name, value)?;
-        Ok(())
+        Ok(true)
     }
 }

@@ -8,6 +8,7 @@ mod characters;
 mod direction;
 mod list;
 mod normal_form;
+mod ordered_pairs;
 mod pair;
 mod text;
 
@@ -18,6 +19,7 @@ pub use characters::{
 pub use direction::Direction;
 pub use list::List;
 pub use normal_form::nfc;
+pub use ordered_pairs::OrderedPairs;
 pub use pair::Pair;
 pub use text::Text;
 

@@ -21,6 +21,35 @@ impl<T> Model for List<T> {
     ghost view = { λ l. l.members.items };
 }
 
+/// The members in their order.
+impl<T> From<Vec<T>> for List<T> {
+    ghost use Rattle.std.specs.Prelude.{◌≡◌};
+
+    ghost from_gives = { λ members list. list ≡ members.items };
+
+    fn from(members: Vec<T>) -> List<T> {
+        List { members }
+    }
+}
+
+impl<T: PartialEq> PartialEq for List<T> {
+    ghost use Rattle.std.specs.Cmp.Lexicographic.{pointwise, lists_per};
+
+    ghost eq = { pointwise T.eq };
+
+    ghost laws = { lists_per T.laws };
+
+    fn eq(&self, other: &List<T>) -> bool {
+        self.members == other.members
+    }
+}
+
+impl<T: Eq> Eq for List<T> {
+    ghost use Rattle.std.specs.Cmp.Lexicographic.{lists_equiv};
+
+    ghost laws = { lists_equiv T.Eq.laws };
+}
+
 impl<T> List<T> {
     /// A list of no members, which takes no memory.
     pub fn new(alloc: Global) -> List<T>
@@ -31,7 +60,8 @@ impl<T> List<T> {
         }
     }
 
-    /// A list of no members with room for this many.
+    /// A list of no members. Room for this many is asked for now, so that they are put in without growing; that is a
+    /// hint, and what is put in is the same without it.
     pub fn with_capacity(alloc: Global, capacity: usize) -> Result<List<T>, AllocError>
         ensures { IfOk result (λ l. l ≡ []) }
     {

@@ -37,6 +37,57 @@ fn a_list_grows_at_its_end(rt: HostRuntime) -> Result<(), Fail> {
     Ok(())
 }
 
+#[test]
+fn a_text_grows_at_its_end(rt: HostRuntime) -> Result<(), Fail> {
+    let mut text = Text::new(rt.alloc());
+    text.push_str("caf")?;
+    text.push('\u{e9}')?;
+    assert_eq!(rt; text.as_str(), "caf\u{e9}");
+    Ok(())
+}
+
+#[test]
+fn lists_are_equal_where_their_members_are(rt: HostRuntime) -> Result<(), Fail> {
+    let mut one = Texts::with_capacity(rt.alloc(), 1)?;
+    let mut other = Texts::new(rt.alloc());
+    one.push(Text::of(rt.alloc(), "a")?)?;
+    assert!(rt; one != other);
+    other.push(Text::of(rt.alloc(), "a")?)?;
+    assert!(rt; one == other);
+    Ok(())
+}
+
+#[test]
+fn an_argument_is_found_by_its_normal_form_and_given_once(rt: HostRuntime) -> Result<(), Fail> {
+    let mut arguments = Arguments::new(rt.alloc());
+    assert!(rt; arguments.is_empty());
+    assert!(rt; arguments.insert(rt.alloc(), "e\u{301}", Argued::Signed(-1))?);
+    assert!(rt; !arguments.insert(rt.alloc(), "\u{e9}", Argued::Unsigned(2))?);
+    assert_eq!(rt; arguments.len(), 1);
+    let name = nfc(rt.alloc(), "\u{e9}")?;
+    assert!(rt; arguments.find(&name) == Some(&Argued::Signed(-1)));
+    Ok(())
+}
+
+#[test]
+fn pairs_are_put_in_byte_order(rt: HostRuntime) -> Result<(), Fail> {
+    let mut pairs = OrderedPairs::new(rt.alloc());
+    for (name, value) in [("b", "1"), ("a", "2"), ("b", "3"), ("", "4")] {
+        pairs.put(Pair {
+            name: Text::of(rt.alloc(), name)?,
+            value: Text::of(rt.alloc(), value)?,
+        })?;
+    }
+    assert_eq!(rt; pairs.as_slice().len(), 3);
+    let pairs = pairs.into_pairs();
+    for (at, (name, value)) in [("", "4"), ("a", "2"), ("b", "3")].iter().enumerate() {
+        let pair = &pairs.as_slice()[at];
+        assert_eq!(rt; pair.name.as_str(), *name);
+        assert_eq!(rt; pair.value.as_str(), *value);
+    }
+    Ok(())
+}
+
 fn starts_name(code: u32) -> bool {
     match char::from_u32(code) {
         Some(c) => is_name_start(c),
