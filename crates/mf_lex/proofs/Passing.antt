@@ -1,11 +1,8 @@
 -- The characters that were passed, and those that are left.
-use Rattle.std.proofs.Common.{◌≡◌, ℕ, ◌-◌, ◌≤◌, List, [], ◌∷◌, ◌++◌, ap, sym, ◌∙◌, subst, length, take, chars, arith, append_assoc, length-append, Result, Ok, Err, cond}
+use Rattle.std.proofs.Common.{◌≡◌, ℕ, ◌-◌, ◌≤◌, List, [], ◌∷◌, ◌++◌, ap, sym, ◌∙◌, subst, length, take, chars, arith, append_assoc, length-append}
 use Rattle.std.proofs.Math.Seq.{take-append_seam}
-use Rattle.std.proofs.lemmas.List.{append-nil}
-use Rattle.std.proofs.lemmas.Str.{chars-nil, chars_past_char, chars-append, encodes-chars, IsUtf8-take, IsCharBoundary-at_seam, encodes-append, IsUtf8-encode}
-use Rattle.std.specs.Prelude.{encode_utf8, encode_utf8_all, OnOk}
-use Rattle.std.specs.Result.{is_ok}
-use Rattle.std.specs.Char.{IsScalar}
+use Rattle.std.proofs.lemmas.Str.{chars-append, encodes-chars, IsUtf8-take, IsCharBoundary-at_seam, encodes-append}
+use Rattle.std.specs.Prelude.{encode_utf8, encode_utf8_all}
 use Rattle.std.specs.List.{slice_range}
 use Rattle.std.specs.Str.{IsUtf8, IsCharBoundary}
 use Rattle.mf_lex.specs.Cursor.{Place, EndsWith, passed}
@@ -88,19 +85,3 @@ front_is text end taken is_text is_end ends is =
     ∙ take-append_seam bytes end in
     let whole : text ≡ taken ++ end = split ∙ ap (λ bs. bs ++ end) (sym all) in
     ap chars whole ∙ chars-append taken end (front_is_text text end taken is_text is_end whole)
-
--- what a push that succeeds leaves
-pub pushed_text : {E : Type 0} (r : Result (Unit {0}) E) (old new text : List ℕ) → IsUtf8 old → new ≡ cond (is_ok r) (old ++ text) old →
-    OnOk r (chars new ≡ chars old ++ chars text)
-pushed_text (Ok u) old new text is_text is = ap chars is ∙ chars-append old text is_text
-pushed_text (Err e) old new text is_text is = tt
-
-one_character : (c : ℕ) → IsScalar c → chars (encode_utf8 c) ≡ c ∷ []
-one_character c scalar =
-    chars_past_char (encode_utf8 c) [] c (IsUtf8-encode c scalar) (sym (append-nil (encode_utf8 c))) ∙ ap (λ cs. c ∷ cs) chars-nil
-
-pub pushed_character : {E : Type 0} (r : Result (Unit {0}) E) (old new : List ℕ) (c : ℕ) → IsUtf8 old → IsScalar c →
-    new ≡ cond (is_ok r) (old ++ encode_utf8 c) old → OnOk r (chars new ≡ chars old ++ c ∷ [])
-pushed_character (Ok u) old new c is_text scalar is =
-    ap chars is ∙ chars-append old (encode_utf8 c) is_text ∙ ap (λ cs. chars old ++ cs) (one_character c scalar)
-pushed_character (Err e) old new c is_text scalar is = tt

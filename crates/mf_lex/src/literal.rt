@@ -1,5 +1,5 @@
 //! Literals, quoted and unquoted.
-ghost use Rattle.std.specs.Prelude.{◌≡◌, ◌≤◌, [], ◌∷◌, ◌++◌, false, length, OnOk, Some, None, chars, string_bytes, MatchOption, IfOk, OnErr};
+ghost use Rattle.std.specs.Prelude.{◌≡◌, ◌≤◌, false, length, OnOk, Some, None, chars, MatchOption, IfOk, OnErr};
 ghost use Rattle.mf_lex.specs.Readers.{Finds};
 ghost use Rattle.mf_lex.specs.Reading.{is_next, gathered, literal_at, quoted_from, unquoted_at};
 ghost use Rattle.mf_text.specs.Characters.{is_quoted};
@@ -61,40 +61,25 @@ fn read_quoted(alloc: Global, cursor: &mut Cursor) -> Result<Option<Text>, Alloc
         (λ value. quoted_from false cursor.old.left ≡ Some (value, cursor.new.left))) }
     ensures whole { cursor.new.whole ≡ cursor.old.whole }
 {
-    let mut value = String::new(alloc);
+    let mut value = Text::new(alloc);
     push_plain(&mut value, cursor)?;
     while !pass_one(cursor, '|') {
         let Some(c) = pass_escape(cursor) else {
             return Ok(None);
         };
-        push_character(&mut value, c)?;
+        value.push(c)?;
         push_plain(&mut value, cursor)?;
     }
-    Ok(Some(Text::from(value)))
+    Ok(Some(value))
 }
 
 /// Passes the characters that stand for themselves, which are put at the end of the value.
-fn push_plain(value: &mut String, cursor: &mut Cursor) -> Result<(), AllocError>
-    ensures gathered { OnOk result (gathered (chars (string_bytes value.new)) cursor.new.left
-        ≡ gathered (chars (string_bytes value.old)) cursor.old.left) }
+fn push_plain(value: &mut Text, cursor: &mut Cursor) -> Result<(), AllocError>
+    ensures gathered { OnOk result (gathered value.new cursor.new.left ≡ gathered value.old cursor.old.left) }
     ensures end { is_next is_quoted cursor.new.left ≡ false }
     ensures shorter { length cursor.new.left ≤ length cursor.old.left }
     ensures whole { cursor.new.whole ≡ cursor.old.whole }
 {
     let plain = take_run(cursor, Class::Quoted);
-    push_text(value, plain)
-}
-
-/// Puts a text at the end of the value.
-fn push_text(value: &mut String, text: &str) -> Result<(), AllocError>
-    ensures { OnOk result (chars (string_bytes value.new) ≡ chars (string_bytes value.old) ++ chars text.now) }
-{
-    value.push_str(text)
-}
-
-/// Puts a character at the end of the value.
-fn push_character(value: &mut String, c: char) -> Result<(), AllocError>
-    ensures { OnOk result (chars (string_bytes value.new) ≡ chars (string_bytes value.old) ++ c ∷ []) }
-{
-    value.push(c)
+    value.push_str(plain)
 }

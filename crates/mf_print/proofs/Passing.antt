@@ -1,4 +1,4 @@
--- What is pushed stands at the end of the characters.
+-- Parts that are written one after the other.
 use Rattle.std.proofs.Common.{◌≡◌, ℕ, List, [], ◌∷◌, ◌++◌, ap, sym, ◌∙◌, chars, Result, Ok, Err, cond, append_assoc, subst, codes}
 use Rattle.std.proofs.lemmas.List.{append-nil}
 use Rattle.std.proofs.lemmas.Str.{chars-nil, chars_past_char, chars-append, IsUtf8-encode}
@@ -6,23 +6,6 @@ use Rattle.std.specs.Char.{IsScalar}
 use Rattle.std.specs.Prelude.{encode_utf8, OnOk}
 use Rattle.std.specs.Result.{is_ok}
 use Rattle.std.specs.Str.{IsUtf8}
-
--- what a push of a text leaves, where it succeeds
-pub pushed_text : {E : Type 0} (r : Result (Unit {0}) E) (seen old new text : List ℕ) → chars old ≡ seen → IsUtf8 old → new ≡ cond (is_ok r) (old ++ text) old →
-    OnOk r (chars new ≡ seen ++ chars text)
-pushed_text (Ok u) seen old new text sees is_text is = ap chars is ∙ chars-append old text is_text ∙ ap (λ cs. cs ++ chars text) sees
-pushed_text (Err e) seen old new text sees is_text is = tt
-
-one_character : (c : ℕ) → IsScalar c → chars (encode_utf8 c) ≡ c ∷ []
-one_character c scalar =
-    chars_past_char (encode_utf8 c) [] c (IsUtf8-encode c scalar) (sym (append-nil (encode_utf8 c))) ∙ ap (λ cs. c ∷ cs) chars-nil
-
--- and of a character
-pub pushed_character : {E : Type 0} (r : Result (Unit {0}) E) (seen old new : List ℕ) (c : ℕ) → chars old ≡ seen → IsUtf8 old → IsScalar c →
-    new ≡ cond (is_ok r) (old ++ encode_utf8 c) old → OnOk r (chars new ≡ seen ++ c ∷ [])
-pushed_character (Ok u) seen old new c sees is_text scalar is =
-    ap chars is ∙ chars-append old (encode_utf8 c) is_text ∙ ap (λ cs. chars old ++ cs) (one_character c scalar) ∙ ap (λ cs. cs ++ c ∷ []) sees
-pushed_character (Err e) seen old new c sees is_text scalar is = tt
 
 -- a text between two bars
 pub between_bars : {E : Type 0} (r : Result (Unit {0}) E) (old inner new text : List ℕ) → inner ≡ (old ++ 0x7C ∷ []) ++ text → OnOk r (new ≡ inner ++ 0x7C ∷ []) →

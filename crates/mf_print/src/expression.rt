@@ -3,7 +3,6 @@ ghost use Rattle.std.specs.Prelude.{◌≡◌, ◌++◌, OnOk};
 ghost use Rattle.mf_tree.specs.Canonical.{attribute_source, attribute_value_source, attributes_source, expression_source, further_function_source, first_function_source, function_source, identifier_source, namespace_source, option_source, option_value_source, options_source, variable_source};
 
 use crate::literal::push_literal;
-use crate::output::Output;
 use mf_text::Text;
 use mf_tree::{
     Attribute, Attributes, Call, Expression, Identifier, Name, Operand, OptionNode, OptionNodes,
@@ -12,7 +11,7 @@ use mf_tree::{
 use std::alloc::AllocError;
 
 /// `{`, the operand, the function, the attributes, `}`: each part after the first stands behind one space.
-pub fn push_expression(out: &mut Output, expression: &Expression) -> Result<(), AllocError>
+pub fn push_expression(out: &mut Text, expression: &Expression) -> Result<(), AllocError>
     ensures { OnOk result (out.new ≡ out.old ++ expression_source expression.now) }
 {
     out.push('{')?;
@@ -32,7 +31,7 @@ pub fn push_expression(out: &mut Output, expression: &Expression) -> Result<(), 
 }
 
 /// A space and a function, if there is one.
-fn push_further_function(out: &mut Output, function: &Option<Call>) -> Result<(), AllocError>
+fn push_further_function(out: &mut Text, function: &Option<Call>) -> Result<(), AllocError>
     ensures { OnOk result (out.new ≡ out.old ++ further_function_source function.now) }
 {
     let Some(call) = function else {
@@ -43,7 +42,7 @@ fn push_further_function(out: &mut Output, function: &Option<Call>) -> Result<()
 }
 
 /// A function, if there is one.
-fn push_first_function(out: &mut Output, function: &Option<Call>) -> Result<(), AllocError>
+fn push_first_function(out: &mut Text, function: &Option<Call>) -> Result<(), AllocError>
     ensures { OnOk result (out.new ≡ out.old ++ first_function_source function.now) }
 {
     let Some(call) = function else {
@@ -52,7 +51,7 @@ fn push_first_function(out: &mut Output, function: &Option<Call>) -> Result<(), 
     push_function(out, call)
 }
 
-fn push_function(out: &mut Output, call: &Call) -> Result<(), AllocError>
+fn push_function(out: &mut Text, call: &Call) -> Result<(), AllocError>
     ensures { OnOk result (out.new ≡ out.old ++ function_source call.now) }
 {
     out.push(':')?;
@@ -61,7 +60,7 @@ fn push_function(out: &mut Output, call: &Call) -> Result<(), AllocError>
 }
 
 /// Each option behind a space.
-pub fn push_options(out: &mut Output, options: &OptionNodes) -> Result<(), AllocError>
+pub fn push_options(out: &mut Text, options: &OptionNodes) -> Result<(), AllocError>
     ensures { OnOk result (out.new ≡ out.old ++ options_source options.now) }
 {
     for option in options.as_slice() {
@@ -70,7 +69,7 @@ pub fn push_options(out: &mut Output, options: &OptionNodes) -> Result<(), Alloc
     Ok(())
 }
 
-fn push_option(out: &mut Output, option: &OptionNode) -> Result<(), AllocError>
+fn push_option(out: &mut Text, option: &OptionNode) -> Result<(), AllocError>
     ensures { OnOk result (out.new ≡ out.old ++ option_source option.now) }
 {
     out.push(' ')?;
@@ -79,7 +78,7 @@ fn push_option(out: &mut Output, option: &OptionNode) -> Result<(), AllocError>
     push_option_value(out, &option.value)
 }
 
-fn push_option_value(out: &mut Output, value: &OptionValue) -> Result<(), AllocError>
+fn push_option_value(out: &mut Text, value: &OptionValue) -> Result<(), AllocError>
     ensures { OnOk result (out.new ≡ out.old ++ option_value_source value.now) }
 {
     match value {
@@ -89,7 +88,7 @@ fn push_option_value(out: &mut Output, value: &OptionValue) -> Result<(), AllocE
 }
 
 /// Each attribute behind a space.
-pub fn push_attributes(out: &mut Output, attributes: &Attributes) -> Result<(), AllocError>
+pub fn push_attributes(out: &mut Text, attributes: &Attributes) -> Result<(), AllocError>
     ensures { OnOk result (out.new ≡ out.old ++ attributes_source attributes.now) }
 {
     for attribute in attributes.as_slice() {
@@ -98,7 +97,7 @@ pub fn push_attributes(out: &mut Output, attributes: &Attributes) -> Result<(), 
     Ok(())
 }
 
-fn push_attribute(out: &mut Output, attribute: &Attribute) -> Result<(), AllocError>
+fn push_attribute(out: &mut Text, attribute: &Attribute) -> Result<(), AllocError>
     ensures { OnOk result (out.new ≡ out.old ++ attribute_source attribute.now) }
 {
     out.push_str(" @")?;
@@ -106,7 +105,7 @@ fn push_attribute(out: &mut Output, attribute: &Attribute) -> Result<(), AllocEr
     push_attribute_value(out, &attribute.value)
 }
 
-fn push_attribute_value(out: &mut Output, value: &Option<Text>) -> Result<(), AllocError>
+fn push_attribute_value(out: &mut Text, value: &Option<Text>) -> Result<(), AllocError>
     ensures { OnOk result (out.new ≡ out.old ++ attribute_value_source value.now) }
 {
     let Some(value) = value else {
@@ -116,14 +115,14 @@ fn push_attribute_value(out: &mut Output, value: &Option<Text>) -> Result<(), Al
     push_literal(out, value)
 }
 
-pub fn push_identifier(out: &mut Output, identifier: &Identifier) -> Result<(), AllocError>
+pub fn push_identifier(out: &mut Text, identifier: &Identifier) -> Result<(), AllocError>
     ensures { OnOk result (out.new ≡ out.old ++ identifier_source identifier.now) }
 {
     push_namespace(out, &identifier.namespace)?;
     out.push_str(identifier.name.spelled.as_str())
 }
 
-fn push_namespace(out: &mut Output, namespace: &Option<Name>) -> Result<(), AllocError>
+fn push_namespace(out: &mut Text, namespace: &Option<Name>) -> Result<(), AllocError>
     ensures { OnOk result (out.new ≡ out.old ++ namespace_source namespace.now) }
 {
     let Some(namespace) = namespace else {
@@ -133,7 +132,7 @@ fn push_namespace(out: &mut Output, namespace: &Option<Name>) -> Result<(), Allo
     out.push(':')
 }
 
-pub fn push_variable(out: &mut Output, name: &Name) -> Result<(), AllocError>
+pub fn push_variable(out: &mut Text, name: &Name) -> Result<(), AllocError>
     ensures { OnOk result (out.new ≡ out.old ++ variable_source name.now) }
 {
     out.push('$')?;

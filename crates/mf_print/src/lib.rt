@@ -9,7 +9,6 @@ mod expression;
 pub mod laws;
 mod literal;
 mod message;
-mod output;
 mod pattern;
 
 pub use message::print;

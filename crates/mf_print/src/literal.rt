@@ -3,12 +3,11 @@ ghost use Rattle.std.specs.Prelude.{◌≡◌, ◌++◌, chars, OnOk};
 ghost use Rattle.mf_text.specs.Lexical.{is_unquoted as has_unquoted_form};
 ghost use Rattle.mf_tree.specs.Canonical.{escaped, escaped_in_quotes, escaped_in_text, literal_source, quoted_source, text_source};
 
-use crate::output::Output;
 use mf_text::{Text, is_name_char};
 use std::alloc::AllocError;
 
 /// A text of a pattern.
-pub fn push_text(out: &mut Output, text: &Text) -> Result<(), AllocError>
+pub fn push_text(out: &mut Text, text: &Text) -> Result<(), AllocError>
     ensures { OnOk result (out.new ≡ out.old ++ text_source text.now) }
 {
     for c in text.as_str().chars() {
@@ -17,7 +16,7 @@ pub fn push_text(out: &mut Output, text: &Text) -> Result<(), AllocError>
     Ok(())
 }
 
-fn push_text_char(out: &mut Output, c: char) -> Result<(), AllocError>
+fn push_text_char(out: &mut Text, c: char) -> Result<(), AllocError>
     ensures { OnOk result (out.new ≡ out.old ++ escaped escaped_in_text c) }
 {
     if matches!(c, '\\' | '{' | '}') {
@@ -27,7 +26,7 @@ fn push_text_char(out: &mut Output, c: char) -> Result<(), AllocError>
 }
 
 /// A literal, unquoted where it can be.
-pub fn push_literal(out: &mut Output, value: &Text) -> Result<(), AllocError>
+pub fn push_literal(out: &mut Text, value: &Text) -> Result<(), AllocError>
     ensures { OnOk result (out.new ≡ out.old ++ literal_source value.now) }
 {
     if is_unquoted(value.as_str()) {
@@ -43,7 +42,7 @@ fn is_unquoted(value: &str) -> bool
     !value.is_empty() && value.chars().all(|c| is_name_char(c))
 }
 
-fn push_quoted(out: &mut Output, value: &Text) -> Result<(), AllocError>
+fn push_quoted(out: &mut Text, value: &Text) -> Result<(), AllocError>
     ensures { OnOk result (out.new ≡ out.old ++ quoted_source value.now) }
 {
     out.push('|')?;
@@ -53,7 +52,7 @@ fn push_quoted(out: &mut Output, value: &Text) -> Result<(), AllocError>
     out.push('|')
 }
 
-fn push_quoted_char(out: &mut Output, c: char) -> Result<(), AllocError>
+fn push_quoted_char(out: &mut Text, c: char) -> Result<(), AllocError>
     ensures { OnOk result (out.new ≡ out.old ++ escaped escaped_in_quotes c) }
 {
     if matches!(c, '\\' | '|') {

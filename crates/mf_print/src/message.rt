@@ -7,7 +7,6 @@ ghost use Rattle.std.specs.List.{flat_map};
 
 use crate::expression::{push_expression, push_variable};
 use crate::literal::push_literal;
-use crate::output::Output;
 use crate::pattern::{must_be_quoted, push_pattern, push_quoted_pattern};
 use mf_text::Text;
 use mf_tree::{
@@ -28,12 +27,12 @@ pub fn print(alloc: Global, message: &Message) -> Result<Text, AllocError>
 pub fn source_of(alloc: Global, message: &Message) -> Result<Text, AllocError>
     ensures { IfOk result (λ source. source ≡ canonical message.now) }
 {
-    let mut out = Output::new(alloc);
+    let mut out = Text::new(alloc);
     push_message(&mut out, message)?;
-    Ok(out.into_text())
+    Ok(out)
 }
 
-fn push_message(out: &mut Output, message: &Message) -> Result<(), AllocError>
+fn push_message(out: &mut Text, message: &Message) -> Result<(), AllocError>
     ensures { OnOk result (out.new ≡ out.old ++ canonical message.now) }
 {
     if message.declarations.is_empty() {
@@ -44,7 +43,7 @@ fn push_message(out: &mut Output, message: &Message) -> Result<(), AllocError>
 }
 
 /// A body without declarations before it.
-fn push_body(out: &mut Output, body: &Body) -> Result<(), AllocError>
+fn push_body(out: &mut Text, body: &Body) -> Result<(), AllocError>
     ensures { OnOk result (out.new ≡ out.old ++ body_source body.now) }
 {
     match body {
@@ -53,7 +52,7 @@ fn push_body(out: &mut Output, body: &Body) -> Result<(), AllocError>
     }
 }
 
-fn push_complex_body(out: &mut Output, body: &Body) -> Result<(), AllocError>
+fn push_complex_body(out: &mut Text, body: &Body) -> Result<(), AllocError>
     ensures { OnOk result (out.new ≡ out.old ++ complex_body_source body.now) }
 {
     match body {
@@ -65,7 +64,7 @@ fn push_complex_body(out: &mut Output, body: &Body) -> Result<(), AllocError>
     }
 }
 
-fn push_declarations(out: &mut Output, declarations: &Declarations) -> Result<(), AllocError>
+fn push_declarations(out: &mut Text, declarations: &Declarations) -> Result<(), AllocError>
     ensures { OnOk result (out.new ≡ out.old ++ declarations_source declarations.now) }
 {
     for declaration in declarations.as_slice() {
@@ -75,7 +74,7 @@ fn push_declarations(out: &mut Output, declarations: &Declarations) -> Result<()
 }
 
 /// A declaration, and a line feed.
-fn push_declaration(out: &mut Output, declaration: &Declaration) -> Result<(), AllocError>
+fn push_declaration(out: &mut Text, declaration: &Declaration) -> Result<(), AllocError>
     ensures { OnOk result (out.new ≡ out.old ++ declaration_source declaration.now) }
 {
     match declaration {
@@ -85,14 +84,14 @@ fn push_declaration(out: &mut Output, declaration: &Declaration) -> Result<(), A
     out.push('\n')
 }
 
-fn push_input(out: &mut Output, expression: &Expression) -> Result<(), AllocError>
+fn push_input(out: &mut Text, expression: &Expression) -> Result<(), AllocError>
     ensures { OnOk result (out.new ≡ out.old ++ input_source expression.now) }
 {
     out.push_str(".input ")?;
     push_expression(out, expression)
 }
 
-fn push_local(out: &mut Output, name: &Name, expression: &Expression) -> Result<(), AllocError>
+fn push_local(out: &mut Text, name: &Name, expression: &Expression) -> Result<(), AllocError>
     ensures { OnOk result (out.new ≡ out.old ++ local_source name.now expression.now) }
 {
     out.push_str(".local ")?;
@@ -101,7 +100,7 @@ fn push_local(out: &mut Output, name: &Name, expression: &Expression) -> Result<
     push_expression(out, expression)
 }
 
-fn push_matcher(out: &mut Output, selectors: &Names, variants: &Variants) -> Result<(), AllocError>
+fn push_matcher(out: &mut Text, selectors: &Names, variants: &Variants) -> Result<(), AllocError>
     ensures { OnOk result (out.new ≡ out.old ++ matcher_source selectors.now variants.now) }
 {
     out.push_str(".match")?;
@@ -110,7 +109,7 @@ fn push_matcher(out: &mut Output, selectors: &Names, variants: &Variants) -> Res
 }
 
 /// Each selector behind a space.
-fn push_selectors(out: &mut Output, selectors: &Names) -> Result<(), AllocError>
+fn push_selectors(out: &mut Text, selectors: &Names) -> Result<(), AllocError>
     ensures { OnOk result (out.new ≡ out.old ++ flat_map selector_source selectors.now) }
 {
     for selector in selectors.as_slice() {
@@ -119,7 +118,7 @@ fn push_selectors(out: &mut Output, selectors: &Names) -> Result<(), AllocError>
     Ok(())
 }
 
-fn push_selector(out: &mut Output, selector: &Name) -> Result<(), AllocError>
+fn push_selector(out: &mut Text, selector: &Name) -> Result<(), AllocError>
     ensures { OnOk result (out.new ≡ out.old ++ selector_source selector.now) }
 {
     out.push(' ')?;
@@ -127,7 +126,7 @@ fn push_selector(out: &mut Output, selector: &Name) -> Result<(), AllocError>
 }
 
 /// Each variant behind a line feed.
-fn push_variants(out: &mut Output, variants: &Variants) -> Result<(), AllocError>
+fn push_variants(out: &mut Text, variants: &Variants) -> Result<(), AllocError>
     ensures { OnOk result (out.new ≡ out.old ++ flat_map variant_source variants.now) }
 {
     for variant in variants.as_slice() {
@@ -136,7 +135,7 @@ fn push_variants(out: &mut Output, variants: &Variants) -> Result<(), AllocError
     Ok(())
 }
 
-fn push_variant(out: &mut Output, variant: &Variant) -> Result<(), AllocError>
+fn push_variant(out: &mut Text, variant: &Variant) -> Result<(), AllocError>
     ensures { OnOk result (out.new ≡ out.old ++ variant_source variant.now) }
 {
     out.push('\n')?;
@@ -146,7 +145,7 @@ fn push_variant(out: &mut Output, variant: &Variant) -> Result<(), AllocError>
 }
 
 /// The keys with one space between them.
-fn push_keys(out: &mut Output, keys: &Keys) -> Result<(), AllocError>
+fn push_keys(out: &mut Text, keys: &Keys) -> Result<(), AllocError>
     ensures { OnOk result (out.new ≡ out.old ++ keys_source keys.now) }
 {
     let Some((first, others)) = keys.as_slice().split_first() else {
@@ -157,7 +156,7 @@ fn push_keys(out: &mut Output, keys: &Keys) -> Result<(), AllocError>
 }
 
 /// Each key behind a space.
-fn push_further_keys(out: &mut Output, keys: &[Key]) -> Result<(), AllocError>
+fn push_further_keys(out: &mut Text, keys: &[Key]) -> Result<(), AllocError>
     ensures { OnOk result (out.new ≡ out.old ++ flat_map further_key_source keys.now) }
 {
     for key in keys {
@@ -166,14 +165,14 @@ fn push_further_keys(out: &mut Output, keys: &[Key]) -> Result<(), AllocError>
     Ok(())
 }
 
-fn push_further_key(out: &mut Output, key: &Key) -> Result<(), AllocError>
+fn push_further_key(out: &mut Text, key: &Key) -> Result<(), AllocError>
     ensures { OnOk result (out.new ≡ out.old ++ further_key_source key.now) }
 {
     out.push(' ')?;
     push_key(out, key)
 }
 
-fn push_key(out: &mut Output, key: &Key) -> Result<(), AllocError>
+fn push_key(out: &mut Text, key: &Key) -> Result<(), AllocError>
     ensures { OnOk result (out.new ≡ out.old ++ key_source key.now) }
 {
     match key {

@@ -4,13 +4,12 @@ ghost use Rattle.mf_tree.specs.Canonical.{begins_with_full_stop as has_full_stop
 
 use crate::expression::{push_attributes, push_expression, push_identifier, push_options};
 use crate::literal::push_text;
-use crate::output::Output;
-use mf_text::{is_bidi, is_ws};
+use mf_text::{Text, is_bidi, is_ws};
 use mf_tree::{Form, Markup, Pattern, Piece};
 use std::alloc::AllocError;
 
 /// A pattern between `{{` and `}}`.
-pub fn push_quoted_pattern(out: &mut Output, pattern: &Pattern) -> Result<(), AllocError>
+pub fn push_quoted_pattern(out: &mut Text, pattern: &Pattern) -> Result<(), AllocError>
     ensures { OnOk result (out.new ≡ out.old ++ quoted_pattern_source pattern.now) }
 {
     out.push_str("{{")?;
@@ -19,7 +18,7 @@ pub fn push_quoted_pattern(out: &mut Output, pattern: &Pattern) -> Result<(), Al
 }
 
 /// The pieces of a pattern in order.
-pub fn push_pattern(out: &mut Output, pattern: &Pattern) -> Result<(), AllocError>
+pub fn push_pattern(out: &mut Text, pattern: &Pattern) -> Result<(), AllocError>
     ensures { OnOk result (out.new ≡ out.old ++ pattern_source pattern.now) }
 {
     for piece in pattern.as_slice() {
@@ -28,7 +27,7 @@ pub fn push_pattern(out: &mut Output, pattern: &Pattern) -> Result<(), AllocErro
     Ok(())
 }
 
-fn push_piece(out: &mut Output, piece: &Piece) -> Result<(), AllocError>
+fn push_piece(out: &mut Text, piece: &Piece) -> Result<(), AllocError>
     ensures { OnOk result (out.new ≡ out.old ++ piece_source piece.now) }
 {
     match piece {
@@ -39,7 +38,7 @@ fn push_piece(out: &mut Output, piece: &Piece) -> Result<(), AllocError>
 }
 
 /// `{#` or `{/`, the identifier, options and attributes each behind a space, ` /` where it is standalone, `}`.
-fn push_markup(out: &mut Output, markup: &Markup) -> Result<(), AllocError>
+fn push_markup(out: &mut Text, markup: &Markup) -> Result<(), AllocError>
     ensures { OnOk result (out.new ≡ out.old ++ markup_source markup.now) }
 {
     out.push_str(opening(markup.form))?;

@@ -1,4 +1,4 @@
-use Rattle.std.proofs.Common.{ap, ◌∙◌, chars, string_bytes}
+use Rattle.std.proofs.Common.{ap, ◌∙◌, chars}
 use Rattle.std.proofs.lemmas.Result.{on_ok_weaker}
 use Rattle.mf_text.specs.Characters.{is_quoted}
 use Rattle.mf_lex.specs.Reading.{is_next}
@@ -7,11 +7,11 @@ use Rattle.mf_lex.proofs.literal.push_plain.Goals as goal
 
 pub returns-clause-gathered : goal.returns-clause-gathered
 returns-clause-gathered c =
-    on_ok_weaker c.push_text.result
+    on_ok_weaker c.push_str.result
     (with_plain c.args.cursor.now.left c.take_run-plain.new.cursor.left (chars c.take_run-plain.result.now)
-    (chars (string_bytes c.args.value.now)) (chars (string_bytes c.push_text.new.value))
+    c.args.value.now c.push_str.new.self
     c.take_run-plain.ensures.taken c.take_run-plain.ensures.run)
-    c.push_text.ensures
+    c.push_str.ensures.ok
 
 pub returns-clause-end : goal.returns-clause-end
 returns-clause-end c = ap (is_next is_quoted) c.take_run-plain.ensures.run ∙ run_stops is_quoted c.args.cursor.now.left

@@ -1,5 +1,4 @@
-use Rattle.std.proofs.Common.{ap, ◌∙◌, chars, string_bytes}
-use Rattle.std.proofs.lemmas.Str.{chars-nil}
+use Rattle.std.proofs.Common.{ap, ◌∙◌}
 use Rattle.mf_lex.specs.Cursor.{Place}
 use Rattle.mf_lex.specs.Reading.{gathered}
 use Rattle.mf_lex.proofs.Gathering.{gathered_nothing, with_escape}
@@ -9,8 +8,7 @@ pub loop-cursor-init : goal.loop-cursor-init
 loop-cursor-init c = record {
   same =
       c.in_ok-push_plain.ensures.gathered
-      ∙ ap (λ bytes. gathered (chars bytes) c.args.cursor.now.left) c.new-value.ensures.bytes
-      ∙ ap (λ cs. gathered cs c.args.cursor.now.left) chars-nil
+      ∙ ap (λ cs. gathered cs c.args.cursor.now.left) c.new-value.ensures
       ∙ gathered_nothing c.args.cursor.now.left;
   end = c.in_ok-push_plain.ensures.end;
   whole = c.in_ok-push_plain.ensures.whole;
@@ -21,10 +19,10 @@ loop-cursor-preserved c = record {
   same =
       c.in_ok-push_plain-2.ensures.gathered
       ∙ with_escape c.args.cursor.now.left c.loop-cursor.cursor.left c.pass_escape.new.cursor.left c.pass_one.new.cursor.left
-      (chars (string_bytes c.loop-cursor.value)) (chars (string_bytes c.push_character.new.value)) c.in-Some.c
+      c.loop-cursor.value c.push.new.self c.in-Some.c
       c.loop-cursor.invariant.same c.in-Some.ensures.computed
       (ap (λ (p : Place). p.left) c.loop-cursor-test.ensures.passed)
-      c.in_ok-push_character.ensures;
+      c.in_ok-push.ensures.ok;
   end = c.in_ok-push_plain-2.ensures.end;
   whole =
       c.in_ok-push_plain-2.ensures.whole

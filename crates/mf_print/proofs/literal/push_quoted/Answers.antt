@@ -11,4 +11,4 @@ returns c =
     let end = YieldsList-end (YieldsList-from_chars c.as_str.result.now c.as_str.utf8 cc) c.loop-c.yielded _ c.loop-c.yielded_by _ _ c.in-None.is c.next.ensures.steps in
     let all = sym (map-id c.loop-c.yielded) ∙ end.0 ∙ c.as_str.ensures.characters in
     between_bars c.push-2.result c.args.out.now c.loop-c.out c.push-2.new.self (flat_map (escaped escaped_in_quotes) c.args.value.now)
-    (c.loop-c.invariant ∙ ap (λ cs. (c.args.out.now ++ 0x7C ∷ []) ++ flat_map (escaped escaped_in_quotes) cs) all) c.push-2.ensures
+    (c.loop-c.invariant ∙ ap (λ cs. (c.args.out.now ++ 0x7C ∷ []) ++ flat_map (escaped escaped_in_quotes) cs) all) c.push-2.ensures.ok

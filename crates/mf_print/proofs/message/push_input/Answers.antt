@@ -8,4 +8,4 @@ pub returns : goal.returns
 returns c =
     two_parts c.push_expression.result c.args.out.now c.push_str.new.self c.push_expression.new.out
     (codes ".input ") (expression_source c.args.expression.now)
-    (c.in_ok-push_str.ensures ∙ ap (λ word. c.args.out.now ++ word) dot_input) c.push_expression.ensures
+    (c.in_ok-push_str.ensures.ok ∙ ap (λ word. c.args.out.now ++ word) dot_input) c.push_expression.ensures

@@ -8,5 +8,5 @@ pub returns : goal.returns
 returns c =
     local_parts c.push_expression.result c.args.out.now c.push_str.new.self c.push_variable.new.out c.push_str-2.new.self c.push_expression.new.out
     (variable_source c.args.name.now) (expression_source c.args.expression.now)
-    (c.in_ok-push_str.ensures ∙ ap (λ word. c.args.out.now ++ word) dot_local) c.in_ok-push_variable.ensures
-    (c.in_ok-push_str-2.ensures ∙ ap (λ word. c.push_variable.new.out ++ word) spaced_equals) c.push_expression.ensures
+    (c.in_ok-push_str.ensures.ok ∙ ap (λ word. c.args.out.now ++ word) dot_local) c.in_ok-push_variable.ensures
+    (c.in_ok-push_str-2.ensures.ok ∙ ap (λ word. c.push_variable.new.out ++ word) spaced_equals) c.push_expression.ensures

@@ -9,4 +9,4 @@ pub returns : goal.returns
 returns c =
     three_parts c.push_variants.result c.args.out.now c.push_str.new.self c.push_selectors.new.out c.push_variants.new.out
     (codes ".match") (flat_map selector_source c.args.selectors.now) (flat_map variant_source c.args.variants.now)
-    (c.in_ok-push_str.ensures ∙ ap (λ word. c.args.out.now ++ word) dot_match) c.in_ok-push_selectors.ensures c.push_variants.ensures
+    (c.in_ok-push_str.ensures.ok ∙ ap (λ word. c.args.out.now ++ word) dot_match) c.in_ok-push_selectors.ensures c.push_variants.ensures

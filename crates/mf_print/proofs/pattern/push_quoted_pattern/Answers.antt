@@ -9,5 +9,5 @@ pub returns : goal.returns
 returns c =
     three_parts c.push_str-2.result c.args.out.now c.push_str.new.self c.push_pattern.new.out c.push_str-2.new.self
     (0x7B ∷ 0x7B ∷ []) (pattern_source c.args.pattern.now) (0x7D ∷ 0x7D ∷ [])
-    (c.in_ok-push_str.ensures ∙ ap (λ word. c.args.out.now ++ word) two_opening) c.in_ok-push_pattern.ensures
-    (on_ok_weaker c.push_str-2.result (λ pushed. pushed ∙ ap (λ word. c.push_pattern.new.out ++ word) two_closing) c.push_str-2.ensures)
+    (c.in_ok-push_str.ensures.ok ∙ ap (λ word. c.args.out.now ++ word) two_opening) c.in_ok-push_pattern.ensures
+    (on_ok_weaker c.push_str-2.result (λ pushed. pushed ∙ ap (λ word. c.push_pattern.new.out ++ word) two_closing) c.push_str-2.ensures.ok)
