@@ -3,7 +3,7 @@ ghost use Rattle.std.specs.Prelude.{ℕ, ◌≡◌, ◌≤◌, ◌<◌, ◌+◌,
 ghost use Rattle.std.specs.Vec.{vec_capacity};
 ghost use Rattle.std.specs.Io.KnownBytes.{Appends, Consumes, IsAtEnd};
 ghost use Rattle.mf_io.specs.Faults.{HasCause, Rose};
-ghost use Rattle.mf_io.specs.Known.{ConsumesAtMost, ConsumesJust, TakesFront};
+ghost use Rattle.mf_io.specs.Known.{ConsumesAtMost, ConsumesBelow, ConsumesJust, TakesFront};
 
 use crate::{Failed, Sink, Source};
 use std::alloc::{AllocError, Global};
@@ -71,8 +71,9 @@ const BUFFER: u64 = 65_536;
 ///
 /// # Errors
 ///
-/// `Failed` where a read failed, `Full` where `cap` bytes came and the end was not told by then, and `OutOfMemory`,
-/// before anything is read. At the first two what was read is lost.
+/// `Failed` where a read failed, when fewer than `cap` bytes had come; `Full` where `cap` bytes came and the end was not
+/// told by then; and `OutOfMemory`, before anything is read. At the first two what was read is lost.
+#[tactic(auto, using(crate::proofs::Gathering::at_most))]
 pub fn gather<S: Source>(alloc: Global, source: &mut S, cap: u64) -> Result<Vec<u8>, GatherError>
     requires { 1 ≤ cap }
     ensures whole { IfOk result (λ input. Consumes (S.left source.old) (S.left source.new) input.items) }
@@ -84,6 +85,7 @@ pub fn gather<S: Source>(alloc: Global, source: &mut S, cap: u64) -> Result<Vec<
     ensures unread { IsErrOf result GatherError.OutOfMemory → source.new ≡ source.old }
     ensures count { S.faults source.old ≤ S.faults source.new }
     ensures failed { IsErrOf result GatherError.Failed → Rose (S.faults source.old) (S.faults source.new) }
+    ensures short { IsErrOf result GatherError.Failed → ConsumesBelow cap (S.left source.old) (S.left source.new) }
 {
     let mut input = Vec::with_capacity(alloc, cap as usize)?;
     let mut buffer = vec![in alloc; 0u8; cap.min(BUFFER) as usize]?;
@@ -107,7 +109,7 @@ fn read_into<S: Source>(
     ensures whole { OnOk result (Consumes (S.left source.old) (S.left source.new) input.new.items) }
     ensures end { IfOk result (λ ended. IsTrue ended → IsAtEnd (S.left source.new) × (vec_len input.new < cap)) }
     ensures full { IfOk result (λ ended. ended ≡ false → vec_len input.new ≡ cap) }
-    ensures stopped { OnErr result (ConsumesAtMost cap (S.left source.old) (S.left source.new)) }
+    ensures stopped { OnErr result (ConsumesBelow cap (S.left source.old) (S.left source.new)) }
     ensures cause { HasCause (S.faults source.old) (S.faults source.new) result }
 {
     while (input.len() as u64) < cap {
