@@ -18,78 +18,13 @@ use Rattle.mf_parse.proofs.Finding.{followed_by, followed_none, behind_by, made_
 use Rattle.mf_parse.proofs.Heads.{word_is}
 use Rattle.mf_parse.proofs.CompleteMessages.{is_word_next, declarations_shorten}
 use Rattle.mf_parse.proofs.Gathers.{Gathered, gathered_step, gathered_stop, gathered_none, key_none, variant_none}
-use Rattle.mf_parse.proofs.Chains.{input_found, input_none_1, input_none_2, input_none_3, variant_found, variant_none_1, variant_none_2}
+use Rattle.mf_parse.proofs.Chains.{input_found, variant_found}
 
 -- an input declaration, whose operand is a copy of its name
 pub input_is : (name operand : Name) (expression : Expression) (cs a b d left : List ℕ) → a ≡ after_space cs → inside a ≡ Some b → variable_at b ≡ Some (name, d) → operand ≡ name → rest_of_expression_at (Operands.Variable operand) d ≡ Some (expression, left) →
     input_at cs ≡ Some (Declarations.Input name expression, left)
 input_is name operand expression cs a b d left at brace variable same rest =
     input_found name expression cs b d left (ap inside (sym at) ∙ brace) variable (ap (λ name. rest_of_expression_at (Operands.Variable name) d) (sym same) ∙ rest)
-
-pub input_no_brace : (cs a : List ℕ) → a ≡ after_space cs → inside a ≡ None → input_at cs ≡ None
-input_no_brace cs a at brace = input_none_1 cs (ap inside (sym at) ∙ brace)
-
-pub input_no_variable : (cs a b : List ℕ) → a ≡ after_space cs → inside a ≡ Some b → variable_at b ≡ None → input_at cs ≡ None
-input_no_variable cs a b at brace variable = input_none_2 cs b (ap inside (sym at) ∙ brace) variable
-
-pub input_no_rest : (name operand : Name) (cs a b d : List ℕ) → a ≡ after_space cs → inside a ≡ Some b → variable_at b ≡ Some (name, d) → operand ≡ name → rest_of_expression_at (Operands.Variable operand) d ≡ None → input_at cs ≡ None
-input_no_rest name operand cs a b d at brace variable same rest =
-    input_none_3 name cs b d (ap inside (sym at) ∙ brace) variable (ap (λ name. rest_of_expression_at (Operands.Variable name) d) (sym same) ∙ rest)
-
-pub local_found : (node : Declaration) (cs place left : List ℕ) → has_space cs ≡ true → place ≡ after_space cs → local_rest place ≡ Some (node, left) → local_at cs ≡ Some (node, left)
-unfolding local_at
-local_found node cs place left some at finds = cond-true (has_space cs) _ _ some ∙ ap local_rest (sym at) ∙ finds
-
-pub local_none : (cs place : List ℕ) → has_space cs ≡ true → place ≡ after_space cs → local_rest place ≡ None → local_at cs ≡ None
-unfolding local_at
-local_none cs place some at none = cond-true (has_space cs) _ _ some ∙ ap local_rest (sym at) ∙ none
-
-pub local_no_space : (cs : List ℕ) → has_space cs ≡ false → local_at cs ≡ None
-unfolding local_at
-local_no_space cs none = cond-false (has_space cs) _ _ none
-
--- the words that begin a declaration
-word_found : (word cs left : List ℕ) → word_at word cs ≡ Some left → is_word_at word cs ≡ true
-word_found word cs left finds = ap (is_word_at word) (word_is word cs left finds) ∙ is_word_next word left
-
-word_missing : (word cs : List ℕ) → word_at word cs ≡ None → is_word_at word cs ≡ false
-word_missing [] cs none = absurd (cc)
-word_missing (c ∷ word) [] none = refl
-word_missing (c ∷ word) (d ∷ cs) none =
-    elim (cases_Bool (d == c)) [
-      | inl is ↦ ap (λ b. b && is_word_at word cs) is ∙ word_missing word cs (sym (ap (option_and_then (word_at word)) (cond-true (d == c) (Some cs) None is)) ∙ none)
-      | inr is ↦ ap (λ b. b && is_word_at word cs) is
-    ]
-
--- what a declaration function found, or that there is none
-pub input_declared : (node : Declaration) (cs p left : List ℕ) → word_at (codes ".input") cs ≡ Some p → input_at p ≡ Some (node, left) → (begins_declaration cs ≡ true) × (declaration_at cs ≡ Some (node, left))
-unfolding declaration_at
-input_declared node cs p left word finds =
-    let is = word_found (codes ".input") cs p word in
-    (or_left (is_word_at (codes ".input") cs) (is_word_at (codes ".local") cs) is, cond-true _ _ _ is ∙ behind_by _ _ p word ∙ finds)
-
-pub input_undeclared : (cs p : List ℕ) → word_at (codes ".input") cs ≡ Some p → input_at p ≡ None → (begins_declaration cs ≡ true) × (declaration_at cs ≡ None)
-unfolding declaration_at
-input_undeclared cs p word none =
-    let is = word_found (codes ".input") cs p word in
-    (or_left (is_word_at (codes ".input") cs) (is_word_at (codes ".local") cs) is, cond-true _ _ _ is ∙ behind_by _ _ p word ∙ none)
-
-pub local_declared : (node : Declaration) (cs a p left : List ℕ) → word_at (codes ".input") cs ≡ None → a ≡ cs → word_at (codes ".local") a ≡ Some p → local_at p ≡ Some (node, left) → (begins_declaration cs ≡ true) × (declaration_at cs ≡ Some (node, left))
-unfolding declaration_at
-local_declared node cs a p left other same word finds =
-    let word = ap (word_at (codes ".local")) (sym same) ∙ word in
-    let is = word_found (codes ".local") cs p word in
-    (or_right (is_word_at (codes ".input") cs) (is_word_at (codes ".local") cs) is, cond-false _ _ _ (word_missing (codes ".input") cs other) ∙ behind_by _ _ p word ∙ finds)
-
-pub local_undeclared : (cs a p : List ℕ) → word_at (codes ".input") cs ≡ None → a ≡ cs → word_at (codes ".local") a ≡ Some p → local_at p ≡ None → (begins_declaration cs ≡ true) × (declaration_at cs ≡ None)
-unfolding declaration_at
-local_undeclared cs a p other same word none =
-    let word = ap (word_at (codes ".local")) (sym same) ∙ word in
-    let is = word_found (codes ".local") cs p word in
-    (or_right (is_word_at (codes ".input") cs) (is_word_at (codes ".local") cs) is, cond-false _ _ _ (word_missing (codes ".input") cs other) ∙ behind_by _ _ p word ∙ none)
-
-pub undeclared : (cs a : List ℕ) → word_at (codes ".input") cs ≡ None → a ≡ cs → word_at (codes ".local") a ≡ None → begins_declaration cs ≡ false
-undeclared cs a other same none = ap (λ b. b || is_word_at (codes ".local") cs) (word_missing (codes ".input") cs other) ∙ word_missing (codes ".local") cs (ap (word_at (codes ".local")) (sym same) ∙ none)
 
 -- declarations, one after another
 spaced_declared : (node : Declaration) (cs p left : List ℕ) → declaration_at cs ≡ Some (node, p) → left ≡ after_space p → spaced_declaration_at cs ≡ Some (node, left)
@@ -134,41 +69,12 @@ further_variant_none all xs cs place gathered some at none = variant_none all xs
 pub variant_is : (keys : List Key) (pattern : List Piece) (cs p a left : List ℕ) → keys_at cs ≡ Some (keys, p) → a ≡ after_space p → quoted_pattern_at a ≡ Some (pattern, left) → variant_at cs ≡ Some (variant_node keys pattern, left)
 variant_is keys pattern cs p a left first at second = variant_found keys pattern cs p left first (ap quoted_pattern_at (sym at) ∙ second)
 
-pub variant_no_keys : (cs : List ℕ) → keys_at cs ≡ None → variant_at cs ≡ None
-variant_no_keys cs none = variant_none_1 cs none
-
-pub variant_no_pattern : (keys : List Key) (cs p a : List ℕ) → keys_at cs ≡ Some (keys, p) → a ≡ after_space p → quoted_pattern_at a ≡ None → variant_at cs ≡ None
-variant_no_pattern keys cs p a first at none = variant_none_2 keys cs p first (ap quoted_pattern_at (sym at) ∙ none)
-
 -- selectors and variants
 match_is : (selectors : List Name) (variants : List Variant) (cs a left : List ℕ) → selectors ≢ [] → has_space cs ≡ true → a ≡ after_space cs → variants_at a ≡ Some (variants, left) → match_at selectors cs ≡ Some (BodyKinds.Match selectors variants, left)
 match_is [] variants cs a left some space at finds = absurd (some refl)
 match_is (name ∷ names) variants cs a left some space at finds = cond-true (has_space cs) _ _ space ∙ made_by _ _ variants left (ap variants_at (sym at) ∙ finds)
 
-match_no_variants : (selectors : List Name) (cs a : List ℕ) → has_space cs ≡ true → a ≡ after_space cs → variants_at a ≡ None → match_at selectors cs ≡ None
-match_no_variants [] cs a space at none = refl
-match_no_variants (name ∷ names) cs a space at none = cond-true (has_space cs) _ _ space ∙ made_none _ _ (ap variants_at (sym at) ∙ none)
-
-match_no_space : (selectors : List Name) (cs : List ℕ) → has_space cs ≡ false → match_at selectors cs ≡ None
-match_no_space [] cs none = refl
-match_no_space (name ∷ names) cs none = cond-false (has_space cs) _ _ none
-
 pub matcher_found : (selectors : List Name) (variants : List Variant) (cs p a left : List ℕ) → selectors_at cs ≡ Some (selectors, p) → selectors ≢ [] → has_space p ≡ true → a ≡ after_space p → variants_at a ≡ Some (variants, left) → matcher_at cs ≡ Some (BodyKinds.Match selectors variants, left)
 unfolding matcher_at
 matcher_found selectors variants cs p a left first some space at finds = followed_by _ _ selectors p first ∙ match_is selectors variants p a left some space at finds
 
-pub matcher_no_selectors : (cs : List ℕ) → selectors_at cs ≡ None → matcher_at cs ≡ None
-unfolding matcher_at
-matcher_no_selectors cs none = followed_none _ _ none
-
-pub matcher_empty : (selectors : List Name) (cs p : List ℕ) → selectors_at cs ≡ Some (selectors, p) → selectors ≡ [] → matcher_at cs ≡ None
-unfolding matcher_at
-matcher_empty selectors cs p first empty = followed_by _ _ selectors p first ∙ ap (λ selectors. match_at selectors p) empty
-
-pub matcher_no_space : (selectors : List Name) (cs p : List ℕ) → selectors_at cs ≡ Some (selectors, p) → has_space p ≡ false → matcher_at cs ≡ None
-unfolding matcher_at
-matcher_no_space selectors cs p first none = followed_by _ _ selectors p first ∙ match_no_space selectors p none
-
-pub matcher_no_variants : (selectors : List Name) (cs p a : List ℕ) → selectors_at cs ≡ Some (selectors, p) → has_space p ≡ true → a ≡ after_space p → variants_at a ≡ None → matcher_at cs ≡ None
-unfolding matcher_at
-matcher_no_variants selectors cs p a first space at none = followed_by _ _ selectors p first ∙ match_no_variants selectors p a space at none

@@ -9,7 +9,6 @@ pub mod Finding
 pub mod Gathers
 pub mod Heads
 pub mod Messages
-pub mod Passing
 pub mod Places
 pub mod Sound
 pub mod SoundMessages

@@ -15,18 +15,6 @@ use Rattle.mf_parse.specs.Syntax.{followed, word_at, is_at, pattern_at, declarat
 use Rattle.mf_parse.proofs.Finding.{followed_by, followed_none, behind_by, behind_none, made_by, made_none}
 use Rattle.mf_parse.proofs.Messages.{none_spelled}
 
-pub body_match_found : (body : Body) (cs a p left : List ℕ) → is_at 0x7B cs ≡ false → word_at (codes ".match") cs ≡ Some p → matcher_at p ≡ Some (body, left) → body_at cs ≡ Some (body, left)
-unfolding body_at
-body_match_found body cs a p left other word finds = cond-false _ _ _ other ∙ behind_by _ _ p word ∙ finds
-
-pub body_match_none : (cs p : List ℕ) → is_at 0x7B cs ≡ false → word_at (codes ".match") cs ≡ Some p → matcher_at p ≡ None → body_at cs ≡ None
-unfolding body_at
-body_match_none cs p other word none = cond-false _ _ _ other ∙ behind_by _ _ p word ∙ none
-
-pub body_no_word : (cs : List ℕ) → is_at 0x7B cs ≡ false → word_at (codes ".match") cs ≡ None → body_at cs ≡ None
-unfolding body_at
-body_no_word cs other none = cond-false _ _ _ other ∙ behind_none _ _ none
-
 -- nothing is left
 pub nothing_left : (cs : List ℕ) → slice_get cs 0 ≡ None → cs ≡ []
 nothing_left [] none = refl
@@ -40,9 +28,6 @@ whole_none : {X : Type 0} (x : X) (left : List ℕ) → left ≢ [] → whole (S
 whole_none x [] some = absurd (some refl)
 whole_none x (c ∷ left) some = refl
 
-whole_some : {X : Type 0} (x : X) (left : List ℕ) → left ≡ [] → whole (Some (x, left)) ≡ Some x
-whole_some x left empty = ap (λ left. whole (Some (x, left))) empty
-
 complex_found_to : (declarations : List Declaration) (body : Body) (cs a b d left : List ℕ) → a ≡ after_space cs → declarations_at a ≡ Some (declarations, b) → body_at b ≡ Some (body, d) → left ≡ after_space d →
     complex_at cs ≡ whole (Some (message_node declarations body, left))
 unfolding complex_at
@@ -50,39 +35,8 @@ complex_found_to declarations body cs a b d left first second third last =
     ap whole (ap (λ a. followed (declarations_at a) (λ declarations left. followed (body_at left) (λ body left. Some (message_node declarations body, after_space left)))) (sym first)
     ∙ followed_by _ _ declarations b second ∙ followed_by _ _ body d third ∙ ap (λ left. Some (message_node declarations body, left)) (sym last))
 
-pub complex_found : (declarations : List Declaration) (body : Body) (cs a b d left : List ℕ) → a ≡ after_space cs → declarations_at a ≡ Some (declarations, b) → body_at b ≡ Some (body, d) → left ≡ after_space d → left ≡ [] →
-    complex_at cs ≡ Some (message_node declarations body)
-complex_found declarations body cs a b d left first second third last empty = complex_found_to declarations body cs a b d left first second third last ∙ whole_some (message_node declarations body) left empty
-
 pub complex_more : (declarations : List Declaration) (body : Body) (cs a b d left : List ℕ) → a ≡ after_space cs → declarations_at a ≡ Some (declarations, b) → body_at b ≡ Some (body, d) → left ≡ after_space d → left ≢ [] → complex_at cs ≡ None
 complex_more declarations body cs a b d left first second third last some = complex_found_to declarations body cs a b d left first second third last ∙ whole_none (message_node declarations body) left some
-
-pub complex_no_declarations : (cs a : List ℕ) → a ≡ after_space cs → declarations_at a ≡ None → complex_at cs ≡ None
-unfolding complex_at
-complex_no_declarations cs a first none = ap whole (followed_none _ _ (ap declarations_at (sym first) ∙ none))
-
-pub complex_no_body : (declarations : List Declaration) (cs a b : List ℕ) → a ≡ after_space cs → declarations_at a ≡ Some (declarations, b) → body_at b ≡ None → complex_at cs ≡ None
-unfolding complex_at
-complex_no_body declarations cs a b first second none = ap whole (followed_by _ _ declarations b (ap declarations_at (sym first) ∙ second) ∙ followed_none _ _ none)
-
--- a simple message
-pub simple_found : (pieces : List Piece) (declarations : List Declaration) (cs left : List ℕ) → begins_simply cs ≡ true → pattern_at cs ≡ Some (pieces, left) → left ≡ [] → declarations ≡ [] → simple_at cs ≡ Some (message_node declarations (BodyKinds.Pattern pieces))
-unfolding simple_at
-simple_found pieces declarations cs left simply finds empty none =
-    cond-true _ _ _ simply ∙ ap whole (made_by _ _ pieces left finds) ∙ whole_some (message_node [] (BodyKinds.Pattern pieces)) left empty
-    ∙ ap (λ declarations. Some (message_node declarations (BodyKinds.Pattern pieces))) (sym none)
-
-pub simple_more : (pieces : List Piece) (cs left : List ℕ) → begins_simply cs ≡ true → pattern_at cs ≡ Some (pieces, left) → left ≢ [] → simple_at cs ≡ None
-unfolding simple_at
-simple_more pieces cs left simply finds some = cond-true _ _ _ simply ∙ ap whole (made_by _ _ pieces left finds) ∙ whole_none (message_node [] (BodyKinds.Pattern pieces)) left some
-
-pub simple_no_pattern : (cs : List ℕ) → begins_simply cs ≡ true → pattern_at cs ≡ None → simple_at cs ≡ None
-unfolding simple_at
-simple_no_pattern cs simply none = cond-true _ _ _ simply ∙ ap whole (made_none _ _ none)
-
-pub not_simple : (cs : List ℕ) → begins_simply cs ≡ false → simple_at cs ≡ None
-unfolding simple_at
-not_simple cs other = cond-false _ _ _ other
 
 -- white space at the front is passed
 pub white_passed : (c : ℕ) (cs rest : List ℕ) → cs ≡ c ∷ rest → is_ws c ≡ true → begins_simply cs ≡ begins_simply rest

@@ -8,17 +8,10 @@ use crate::pattern::pass_word;
 use crate::spaces::{pass_equals, pass_opening};
 use mf_lex::Cursor;
 use mf_tree::{Declaration, Declarations, Name, Operand};
-use std::alloc::{AllocError, Global};
-
-/// The same name once more.
-fn copy_of(name: &Name) -> Result<Name, AllocError>
-    ensures { IfOk result (λ copy. copy ≡ name.now) }
-{
-    name.clone()
-}
+use std::alloc::Global;
 
 /// An input declaration behind its word.
-#[tactic(auto, using(crate::proofs::Bodies::input_no_brace, crate::proofs::Bodies::input_no_variable, crate::proofs::Bodies::input_no_rest))]
+#[tactic(auto, unfolding(crate::specs::Syntax::input_at))]
 fn input(alloc: Global, cursor: &mut Cursor) -> Result<Declaration, ParseError>
     ensures found { IfOk result (λ declaration. input_at cursor.old.left ≡ Some (declaration, cursor.new.left)) }
     ensures none { IsErrOf result ParseError.Syntax → input_at cursor.old.left ≡ None }
@@ -28,13 +21,13 @@ fn input(alloc: Global, cursor: &mut Cursor) -> Result<Declaration, ParseError>
         return Err(ParseError::Syntax);
     }
     let name = variable(alloc, cursor)?;
-    let operand = copy_of(&name)?;
+    let operand = name.clone()?;
     let expression = rest_of_expression(alloc, cursor, Operand::Variable(operand))?;
     Ok(Declaration::Input { name, expression })
 }
 
 /// `variable o "=" o expression`
-#[tactic(auto, using(crate::proofs::Chains::local_found, crate::proofs::Chains::local_none_1, crate::proofs::Chains::local_none_2, crate::proofs::Chains::local_none_3))]
+#[tactic(auto, unfolding(crate::specs::Syntax::local_rest))]
 fn local_rest(alloc: Global, cursor: &mut Cursor) -> Result<Declaration, ParseError>
     ensures found { IfOk result (λ declaration. rest_of_local cursor.old.left ≡ Some (declaration, cursor.new.left)) }
     ensures none { IsErrOf result ParseError.Syntax → rest_of_local cursor.old.left ≡ None }
@@ -48,7 +41,7 @@ fn local_rest(alloc: Global, cursor: &mut Cursor) -> Result<Declaration, ParseEr
 }
 
 /// A local declaration behind its word.
-#[tactic(auto, using(crate::proofs::Bodies::local_found, crate::proofs::Bodies::local_none, crate::proofs::Bodies::local_no_space))]
+#[tactic(auto, unfolding(crate::specs::Syntax::local_at))]
 fn local(alloc: Global, cursor: &mut Cursor) -> Result<Declaration, ParseError>
     ensures found { IfOk result (λ declaration. local_at cursor.old.left ≡ Some (declaration, cursor.new.left)) }
     ensures none { IsErrOf result ParseError.Syntax → local_at cursor.old.left ≡ None }
@@ -61,7 +54,7 @@ fn local(alloc: Global, cursor: &mut Cursor) -> Result<Declaration, ParseError>
 }
 
 /// `declaration`, if one is next.
-#[tactic(auto, using(crate::proofs::Bodies::input_declared, crate::proofs::Bodies::input_undeclared, crate::proofs::Bodies::local_declared, crate::proofs::Bodies::local_undeclared, crate::proofs::Bodies::undeclared))]
+#[tactic(auto, unfolding(crate::specs::Syntax::declaration_at))]
 fn declaration(alloc: Global, cursor: &mut Cursor) -> Result<Option<Declaration>, ParseError>
     ensures found { IfOk result (λ found. MatchOption found
         ((begins_declaration cursor.old.left ≡ false) × (cursor.new.left ≡ cursor.old.left))

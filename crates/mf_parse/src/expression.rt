@@ -18,7 +18,7 @@ use mf_tree::{
 use std::alloc::{AllocError, Global};
 
 /// `identifier`
-#[tactic(auto, using(crate::proofs::Choices::identifier_found, crate::proofs::Choices::identifier_none))]
+#[tactic(auto, unfolding(crate::specs::Syntax::identifier_node_at))]
 pub fn identifier(alloc: Global, cursor: &mut Cursor) -> Result<Identifier, ParseError>
     ensures found { IfOk result (λ identifier. identifier_node_at cursor.old.left ≡ Some (identifier, cursor.new.left)) }
     ensures none { IsErrOf result ParseError.Syntax → identifier_node_at cursor.old.left ≡ None }
@@ -63,7 +63,7 @@ fn namespace_of(alloc: Global, namespace: Option<Text>) -> Result<Option<Name>, 
 }
 
 /// `variable`
-#[tactic(auto, using(crate::proofs::Choices::variable_is, crate::proofs::Chains::variable_none_1, crate::proofs::Chains::variable_none_2))]
+#[tactic(auto, unfolding(crate::specs::Syntax::variable_at))]
 pub fn variable(alloc: Global, cursor: &mut Cursor) -> Result<Name, ParseError>
     ensures found { IfOk result (λ name. variable_at cursor.old.left ≡ Some (name, cursor.new.left)) }
     ensures none { IsErrOf result ParseError.Syntax → variable_at cursor.old.left ≡ None }
@@ -92,28 +92,23 @@ pub fn literal(alloc: Global, cursor: &mut Cursor) -> Result<Text, ParseError>
     ensures found { IfOk result (λ value. literal_at cursor.old.left ≡ Some (value, cursor.new.left)) }
     ensures none { IsErrOf result ParseError.Syntax → literal_at cursor.old.left ≡ None }
 {
-    let Some(value) = cursor.literal(alloc)? else {
-        return Err(ParseError::Syntax);
-    };
-    Ok(value)
+    cursor.literal(alloc)?.ok_or(ParseError::Syntax)
 }
 
 /// `literal / variable`
-#[tactic(auto, using(crate::proofs::Choices::value_variable_found, crate::proofs::Choices::value_variable_none, crate::proofs::Choices::value_literal_found, crate::proofs::Choices::value_literal_none))]
+#[tactic(auto, unfolding(crate::specs::Syntax::option_value_at))]
 fn option_value(alloc: Global, cursor: &mut Cursor) -> Result<OptionValue, ParseError>
     ensures found { IfOk result (λ value. option_value_at cursor.old.left ≡ Some (value, cursor.new.left)) }
     ensures none { IsErrOf result ParseError.Syntax → option_value_at cursor.old.left ≡ None }
 {
     if is_next(cursor, '$') {
-        let name = variable(alloc, cursor)?;
-        return Ok(OptionValue::Variable(name));
+        return Ok(OptionValue::Variable(variable(alloc, cursor)?));
     }
-    let value = literal(alloc, cursor)?;
-    Ok(OptionValue::Literal(value))
+    Ok(OptionValue::Literal(literal(alloc, cursor)?))
 }
 
 /// `option`
-#[tactic(auto, using(crate::proofs::Chains::option_found, crate::proofs::Chains::option_none_1, crate::proofs::Chains::option_none_2, crate::proofs::Chains::option_none_3))]
+#[tactic(auto, unfolding(crate::specs::Syntax::option_at))]
 fn option(alloc: Global, cursor: &mut Cursor) -> Result<OptionNode, ParseError>
     ensures found { IfOk result (λ option. option_at cursor.old.left ≡ Some (option, cursor.new.left)) }
     ensures none { IsErrOf result ParseError.Syntax → option_at cursor.old.left ≡ None }
@@ -141,7 +136,7 @@ pub fn options(alloc: Global, cursor: &mut Cursor) -> Result<OptionNodes, ParseE
 }
 
 /// `[o "=" o literal]`
-#[tactic(auto, using(crate::proofs::Choices::no_value_found, crate::proofs::Choices::value_found, crate::proofs::Choices::value_none_1, crate::proofs::Choices::value_none_2))]
+#[tactic(auto, unfolding(crate::specs::Syntax::attribute_value_at))]
 fn attribute_value(alloc: Global, cursor: &mut Cursor) -> Result<Option<Text>, ParseError>
     ensures found { IfOk result (λ value. attribute_value_at cursor.old.left ≡ Some (value, cursor.new.left)) }
     ensures none { IsErrOf result ParseError.Syntax → attribute_value_at cursor.old.left ≡ None }
@@ -159,7 +154,7 @@ fn attribute_value(alloc: Global, cursor: &mut Cursor) -> Result<Option<Text>, P
 }
 
 /// `attribute`
-#[tactic(auto, using(crate::proofs::Chains::attribute_found, crate::proofs::Chains::attribute_none_1, crate::proofs::Chains::attribute_none_2, crate::proofs::Chains::attribute_none_3))]
+#[tactic(auto, unfolding(crate::specs::Syntax::attribute_at))]
 fn attribute(alloc: Global, cursor: &mut Cursor) -> Result<Attribute, ParseError>
     ensures found { IfOk result (λ attribute. attribute_at cursor.old.left ≡ Some (attribute, cursor.new.left)) }
     ensures none { IsErrOf result ParseError.Syntax → attribute_at cursor.old.left ≡ None }
@@ -187,7 +182,7 @@ pub fn attributes(alloc: Global, cursor: &mut Cursor) -> Result<Attributes, Pars
 }
 
 /// `function`
-#[tactic(auto, using(crate::proofs::Chains::function_found, crate::proofs::Chains::function_none_1, crate::proofs::Chains::function_none_2, crate::proofs::Chains::function_none_3))]
+#[tactic(auto, unfolding(crate::specs::Syntax::function_at))]
 fn function(alloc: Global, cursor: &mut Cursor) -> Result<Call, ParseError>
     ensures found { IfOk result (λ call. function_at cursor.old.left ≡ Some (call, cursor.new.left)) }
     ensures none { IsErrOf result ParseError.Syntax → function_at cursor.old.left ≡ None }
@@ -201,7 +196,7 @@ fn function(alloc: Global, cursor: &mut Cursor) -> Result<Call, ParseError>
 }
 
 /// `[s function]`
-#[tactic(auto, using(crate::proofs::Choices::no_function_found, crate::proofs::Choices::function_is_found, crate::proofs::Choices::function_is_none))]
+#[tactic(auto, unfolding(crate::specs::Syntax::spaced_function_at))]
 fn spaced_function(alloc: Global, cursor: &mut Cursor) -> Result<Option<Call>, ParseError>
     ensures found { IfOk result (λ call. spaced_function_at cursor.old.left ≡ Some (call, cursor.new.left)) }
     ensures none { IsErrOf result ParseError.Syntax → spaced_function_at cursor.old.left ≡ None }
@@ -214,7 +209,7 @@ fn spaced_function(alloc: Global, cursor: &mut Cursor) -> Result<Option<Call>, P
 }
 
 /// `*(s attribute) o "}"`
-#[tactic(auto, using(crate::proofs::Chains::last_attributes_found, crate::proofs::Chains::last_attributes_none_1, crate::proofs::Chains::last_attributes_none_2))]
+#[tactic(auto, unfolding(crate::specs::Syntax::last_attributes_at))]
 pub fn last_attributes(alloc: Global, cursor: &mut Cursor) -> Result<Attributes, ParseError>
     ensures found { IfOk result (λ attributes. last_attributes_at cursor.old.left ≡ Some (attributes, cursor.new.left)) }
     ensures none { IsErrOf result ParseError.Syntax → last_attributes_at cursor.old.left ≡ None }
@@ -227,7 +222,7 @@ pub fn last_attributes(alloc: Global, cursor: &mut Cursor) -> Result<Attributes,
 }
 
 /// `[s function] *(s attribute) o "}"`
-#[tactic(auto, using(crate::proofs::Chains::rest_found, crate::proofs::Chains::rest_none_1, crate::proofs::Chains::rest_none_2))]
+#[tactic(auto, unfolding(crate::specs::Syntax::rest_of_expression_at))]
 pub fn rest_of_expression(
     alloc: Global,
     cursor: &mut Cursor,
@@ -246,29 +241,27 @@ pub fn rest_of_expression(
 }
 
 /// `variable [s function] *(s attribute) o "}"`
-#[tactic(auto, using(crate::proofs::Choices::of_variable_found, crate::proofs::Choices::of_variable_none_1, crate::proofs::Choices::of_variable_none_2))]
+#[tactic(auto, unfolding(crate::specs::Syntax::of_variable_at))]
 fn of_variable(alloc: Global, cursor: &mut Cursor) -> Result<Expression, ParseError>
     ensures found { IfOk result (λ expression. of_variable_at cursor.old.left ≡ Some (expression, cursor.new.left)) }
     ensures none { IsErrOf result ParseError.Syntax → of_variable_at cursor.old.left ≡ None }
 {
     let name = variable(alloc, cursor)?;
-    let expression = rest_of_expression(alloc, cursor, Operand::Variable(name))?;
-    Ok(expression)
+    rest_of_expression(alloc, cursor, Operand::Variable(name))
 }
 
 /// `literal [s function] *(s attribute) o "}"`
-#[tactic(auto, using(crate::proofs::Choices::of_literal_found, crate::proofs::Choices::of_literal_none_1, crate::proofs::Choices::of_literal_none_2))]
+#[tactic(auto, unfolding(crate::specs::Syntax::of_literal_at))]
 fn of_literal(alloc: Global, cursor: &mut Cursor) -> Result<Expression, ParseError>
     ensures found { IfOk result (λ expression. of_literal_at cursor.old.left ≡ Some (expression, cursor.new.left)) }
     ensures none { IsErrOf result ParseError.Syntax → of_literal_at cursor.old.left ≡ None }
 {
     let value = literal(alloc, cursor)?;
-    let expression = rest_of_expression(alloc, cursor, Operand::Literal(value))?;
-    Ok(expression)
+    rest_of_expression(alloc, cursor, Operand::Literal(value))
 }
 
 /// `function *(s attribute) o "}"`
-#[tactic(auto, using(crate::proofs::Chains::of_function_found, crate::proofs::Chains::of_function_none_1, crate::proofs::Chains::of_function_none_2))]
+#[tactic(auto, unfolding(crate::specs::Syntax::of_function_at))]
 fn of_function(alloc: Global, cursor: &mut Cursor) -> Result<Expression, ParseError>
     ensures found { IfOk result (λ expression. of_function_at cursor.old.left ≡ Some (expression, cursor.new.left)) }
     ensures none { IsErrOf result ParseError.Syntax → of_function_at cursor.old.left ≡ None }
@@ -283,25 +276,22 @@ fn of_function(alloc: Global, cursor: &mut Cursor) -> Result<Expression, ParseEr
 }
 
 /// An expression behind its brace and the space.
-#[tactic(auto, using(crate::proofs::Choices::inner_variable_found, crate::proofs::Choices::inner_variable_none, crate::proofs::Choices::inner_function_found, crate::proofs::Choices::inner_function_none, crate::proofs::Choices::inner_literal_found, crate::proofs::Choices::inner_literal_none))]
+#[tactic(auto, unfolding(crate::specs::Syntax::inner_expression_at))]
 pub fn inner_expression(alloc: Global, cursor: &mut Cursor) -> Result<Expression, ParseError>
     ensures found { IfOk result (λ expression. inner_expression_at cursor.old.left ≡ Some (expression, cursor.new.left)) }
     ensures none { IsErrOf result ParseError.Syntax → inner_expression_at cursor.old.left ≡ None }
 {
     if is_next(cursor, '$') {
-        let expression = of_variable(alloc, cursor)?;
-        return Ok(expression);
+        return of_variable(alloc, cursor);
     }
     if is_next(cursor, ':') {
-        let expression = of_function(alloc, cursor)?;
-        return Ok(expression);
+        return of_function(alloc, cursor);
     }
-    let expression = of_literal(alloc, cursor)?;
-    Ok(expression)
+    of_literal(alloc, cursor)
 }
 
 /// `expression`
-#[tactic(auto, using(crate::proofs::Choices::expression_found, crate::proofs::Choices::expression_none_1, crate::proofs::Choices::expression_none_2))]
+#[tactic(auto, unfolding(crate::specs::Syntax::expression_at))]
 pub fn expression(alloc: Global, cursor: &mut Cursor) -> Result<Expression, ParseError>
     ensures found { IfOk result (λ expression. expression_at cursor.old.left ≡ Some (expression, cursor.new.left)) }
     ensures none { IsErrOf result ParseError.Syntax → expression_at cursor.old.left ≡ None }
@@ -309,6 +299,5 @@ pub fn expression(alloc: Global, cursor: &mut Cursor) -> Result<Expression, Pars
     if !pass_opening(cursor) {
         return Err(ParseError::Syntax);
     }
-    let expression = inner_expression(alloc, cursor)?;
-    Ok(expression)
+    inner_expression(alloc, cursor)
 }

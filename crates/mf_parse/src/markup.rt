@@ -10,7 +10,7 @@ use mf_tree::{Form, Markup, Piece};
 use std::alloc::Global;
 
 /// `o ["/"] "}"`
-#[tactic(auto, using(crate::proofs::Choices::standalone_found, crate::proofs::Choices::standalone_none, crate::proofs::Choices::start_found, crate::proofs::Choices::start_none))]
+#[tactic(auto, unfolding(crate::specs::Syntax::form_at, crate::specs::Syntax::behind_brace))]
 fn form(cursor: &mut Cursor) -> Result<Form, ParseError>
     ensures found { IfOk result (λ form. form_at cursor.old.left ≡ Some (form, cursor.new.left)) }
     ensures none { IsErrOf result ParseError.Syntax → form_at cursor.old.left ≡ None }
@@ -29,7 +29,7 @@ fn form(cursor: &mut Cursor) -> Result<Form, ParseError>
 }
 
 /// Markup behind its `#`.
-#[tactic(auto, using(crate::proofs::Chains::opening_found, crate::proofs::Chains::opening_none_1, crate::proofs::Chains::opening_none_2, crate::proofs::Chains::opening_none_3, crate::proofs::Chains::opening_none_4))]
+#[tactic(auto, unfolding(crate::specs::Syntax::opening_at))]
 fn opening(alloc: Global, cursor: &mut Cursor) -> Result<Markup, ParseError>
     ensures found { IfOk result (λ markup. opening_at cursor.old.left ≡ Some (markup, cursor.new.left)) }
     ensures none { IsErrOf result ParseError.Syntax → opening_at cursor.old.left ≡ None }
@@ -47,7 +47,7 @@ fn opening(alloc: Global, cursor: &mut Cursor) -> Result<Markup, ParseError>
 }
 
 /// Markup behind its `/`.
-#[tactic(auto, using(crate::proofs::Chains::closing_found, crate::proofs::Chains::closing_none_1, crate::proofs::Chains::closing_none_2, crate::proofs::Chains::closing_none_3))]
+#[tactic(auto, unfolding(crate::specs::Syntax::closing_at))]
 fn closing(alloc: Global, cursor: &mut Cursor) -> Result<Markup, ParseError>
     ensures found { IfOk result (λ markup. closing_at cursor.old.left ≡ Some (markup, cursor.new.left)) }
     ensures none { IsErrOf result ParseError.Syntax → closing_at cursor.old.left ≡ None }
@@ -64,7 +64,7 @@ fn closing(alloc: Global, cursor: &mut Cursor) -> Result<Markup, ParseError>
 }
 
 /// A placeholder behind its brace and the space.
-#[tactic(auto, using(crate::proofs::Choices::opening_markup_found, crate::proofs::Choices::opening_markup_none, crate::proofs::Choices::closing_markup_found, crate::proofs::Choices::closing_markup_none, crate::proofs::Choices::placeholder_value_found, crate::proofs::Choices::placeholder_value_none))]
+#[tactic(auto, unfolding(crate::specs::Syntax::inner_placeholder_at))]
 fn inner_placeholder(alloc: Global, cursor: &mut Cursor) -> Result<Piece, ParseError>
     ensures found { IfOk result (λ piece. inner_placeholder_at cursor.old.left ≡ Some (piece, cursor.new.left)) }
     ensures none { IsErrOf result ParseError.Syntax → inner_placeholder_at cursor.old.left ≡ None }
@@ -82,7 +82,7 @@ fn inner_placeholder(alloc: Global, cursor: &mut Cursor) -> Result<Piece, ParseE
 }
 
 /// `placeholder`
-#[tactic(auto, using(crate::proofs::Choices::placeholder_found, crate::proofs::Choices::placeholder_none_1, crate::proofs::Choices::placeholder_none_2))]
+#[tactic(auto, unfolding(crate::specs::Syntax::placeholder_at))]
 pub fn placeholder(alloc: Global, cursor: &mut Cursor) -> Result<Piece, ParseError>
     ensures found { IfOk result (λ piece. placeholder_at cursor.old.left ≡ Some (piece, cursor.new.left)) }
     ensures none { IsErrOf result ParseError.Syntax → placeholder_at cursor.old.left ≡ None }

@@ -12,7 +12,7 @@ use mf_tree::{Body, Key, Keys, Names, Variant, Variants};
 use std::alloc::Global;
 
 /// `key`
-#[tactic(auto, using(crate::proofs::Choices::star_found, crate::proofs::Choices::key_value_found, crate::proofs::Choices::key_value_none))]
+#[tactic(auto, unfolding(crate::specs::Syntax::key_at))]
 fn key(alloc: Global, cursor: &mut Cursor) -> Result<Key, ParseError>
     ensures found { IfOk result (λ key. key_at cursor.old.left ≡ Some (key, cursor.new.left)) }
     ensures none { IsErrOf result ParseError.Syntax → key_at cursor.old.left ≡ None }
@@ -55,7 +55,7 @@ fn keys(alloc: Global, cursor: &mut Cursor) -> Result<Keys, ParseError>
 }
 
 /// `variant`
-#[tactic(auto, using(crate::proofs::Bodies::variant_no_keys, crate::proofs::Bodies::variant_no_pattern))]
+#[tactic(auto, unfolding(crate::specs::Syntax::variant_at))]
 fn variant(alloc: Global, cursor: &mut Cursor) -> Result<Variant, ParseError>
     ensures found { IfOk result (λ variant. variant_at cursor.old.left ≡ Some (variant, cursor.new.left)) }
     ensures none { IsErrOf result ParseError.Syntax → variant_at cursor.old.left ≡ None }
@@ -112,7 +112,7 @@ fn selectors(alloc: Global, cursor: &mut Cursor) -> Result<Names, ParseError>
 }
 
 /// A matcher behind its word.
-#[tactic(auto, using(crate::proofs::Bodies::matcher_no_selectors, crate::proofs::Bodies::matcher_empty, crate::proofs::Bodies::matcher_no_space, crate::proofs::Bodies::matcher_no_variants))]
+#[tactic(auto, unfolding(crate::specs::Syntax::matcher_at))]
 pub fn matcher(alloc: Global, cursor: &mut Cursor) -> Result<Body, ParseError>
     ensures found { IfOk result (λ body. matcher_at cursor.old.left ≡ Some (body, cursor.new.left)) }
     ensures none { IsErrOf result ParseError.Syntax → matcher_at cursor.old.left ≡ None }

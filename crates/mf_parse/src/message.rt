@@ -36,7 +36,7 @@ pub fn parse(alloc: Global, text: &str) -> Result<Message, ParseError>
 }
 
 /// `complex-body`
-#[tactic(auto, using(crate::proofs::Choices::body_pattern_found, crate::proofs::Choices::body_pattern_none, crate::proofs::Whole::body_match_found, crate::proofs::Whole::body_match_none, crate::proofs::Whole::body_no_word))]
+#[tactic(auto, unfolding(crate::specs::Syntax::body_at))]
 fn complex_body(alloc: Global, cursor: &mut Cursor) -> Result<Body, ParseError>
     ensures found { IfOk result (λ body. body_at cursor.old.left ≡ Some (body, cursor.new.left)) }
     ensures none { IsErrOf result ParseError.Syntax → body_at cursor.old.left ≡ None }
@@ -61,7 +61,7 @@ fn is_end(cursor: &Cursor) -> bool
 }
 
 /// `complex-message`, which is all that is left.
-#[tactic(auto, using(crate::proofs::Whole::complex_no_declarations, crate::proofs::Whole::complex_no_body, crate::proofs::Whole::complex_found, crate::proofs::Whole::complex_more))]
+#[tactic(auto, unfolding(crate::specs::Syntax::complex_at))]
 fn whole_complex_message(alloc: Global, cursor: &mut Cursor) -> Result<Message, ParseError>
     ensures found { IfOk result (λ message. complex_at cursor.old.left ≡ Some message) }
     ensures none { IsErrOf result ParseError.Syntax → complex_at cursor.old.left ≡ None }
@@ -103,7 +103,7 @@ fn begins_simply(cursor: &Cursor) -> bool
 }
 
 /// `simple-message`, which is all that is left.
-#[tactic(auto, using(crate::proofs::Whole::simple_found, crate::proofs::Whole::simple_more, crate::proofs::Whole::simple_no_pattern, crate::proofs::Whole::not_simple))]
+#[tactic(auto, unfolding(crate::specs::Syntax::simple_at))]
 fn simple_message(alloc: Global, cursor: &mut Cursor) -> Result<Message, ParseError>
     ensures found { IfOk result (λ message. simple_at cursor.old.left ≡ Some message) }
     ensures none { IsErrOf result ParseError.Syntax → simple_at cursor.old.left ≡ None }

@@ -1,5 +1,5 @@
 //! Patterns, one function a production.
-ghost use Rattle.std.specs.Prelude.{◌≡◌, ◌<◌, ◌≤◌, ◌++◌, ◌∷◌, true, false, Some, None, [], chars, length, string_bytes, IfOk, OnOk, IsErrOf, MatchBool};
+ghost use Rattle.std.specs.Prelude.{◌≡◌, ◌<◌, ◌≤◌, ◌++◌, true, false, Some, None, length, IfOk, OnOk, IsErrOf, MatchBool};
 ghost use Rattle.mf_text.specs.Characters.{is_text};
 ghost use Rattle.mf_lex.specs.Reading.{is_next as comes_next, run, behind_run};
 ghost use Rattle.mf_tree.specs.declared.pattern.Piece.TheVariants as Pieces;
@@ -47,29 +47,15 @@ fn ends_text(cursor: &Cursor) -> bool
     }
 }
 
-/// Puts a character at the end of a text.
-fn push_character(text: &mut String, c: char) -> Result<(), AllocError>
-    ensures { OnOk result (chars (string_bytes text.new) ≡ chars (string_bytes text.old) ++ c ∷ []) }
-{
-    text.push(c)
-}
-
-/// Puts a run of characters at the end of a text.
-fn push_run(text: &mut String, run: &str) -> Result<(), AllocError>
-    ensures { OnOk result (chars (string_bytes text.new) ≡ chars (string_bytes text.old) ++ chars run.now) }
-{
-    text.push_str(run)
-}
-
 /// Passes the characters that stand for themselves, which are put at the end of a text.
-fn push_plain(text: &mut String, cursor: &mut Cursor) -> Result<(), AllocError>
-    ensures gained { OnOk result (chars (string_bytes text.new) ≡ chars (string_bytes text.old) ++ run is_text cursor.old.left) }
+fn push_plain(text: &mut Text, cursor: &mut Cursor) -> Result<(), AllocError>
+    ensures gained { OnOk result (text.new ≡ text.old ++ run is_text cursor.old.left) }
     ensures left { cursor.new.left ≡ behind_run is_text cursor.old.left }
     ensures end { comes_next is_text cursor.new.left ≡ false }
     ensures no_longer { length cursor.new.left ≤ length cursor.old.left }
 {
     let plain = cursor.text_run();
-    push_run(text, plain)
+    text.push_str(plain)
 }
 
 /// The longest text, which isn't empty.
@@ -79,16 +65,16 @@ fn text(alloc: Global, cursor: &mut Cursor) -> Result<Text, ParseError>
     ensures none { IsErrOf result ParseError.Syntax → pattern_at cursor.old.left ≡ None }
     ensures shorter { IfOk result (λ text. length cursor.new.left < length cursor.old.left) }
 {
-    let mut text = String::new(alloc);
+    let mut text = Text::new(alloc);
     push_plain(&mut text, cursor)?;
     while let Some(c) = cursor.escape() {
-        push_character(&mut text, c)?;
+        text.push(c)?;
         push_plain(&mut text, cursor)?;
     }
     if !ends_text(cursor) {
         return Err(ParseError::Syntax);
     }
-    Ok(Text::from(text))
+    Ok(text)
 }
 
 /// The next piece of a pattern that goes on.
@@ -122,7 +108,7 @@ pub fn pattern(alloc: Global, cursor: &mut Cursor) -> Result<Pattern, ParseError
 }
 
 /// `quoted-pattern`
-#[tactic(auto, using(crate::proofs::Chains::quoted_pattern_found, crate::proofs::Chains::quoted_pattern_none_1, crate::proofs::Chains::quoted_pattern_none_2, crate::proofs::Chains::quoted_pattern_none_3))]
+#[tactic(auto, unfolding(crate::specs::Syntax::quoted_pattern_at))]
 pub fn quoted_pattern(alloc: Global, cursor: &mut Cursor) -> Result<Pattern, ParseError>
     ensures found { IfOk result (λ pattern. quoted_pattern_at cursor.old.left ≡ Some (pattern, cursor.new.left)) }
     ensures none { IsErrOf result ParseError.Syntax → quoted_pattern_at cursor.old.left ≡ None }

@@ -56,7 +56,7 @@ fn is_name_next(cursor: &Cursor) -> bool
 }
 
 /// Passes an equals sign with the space around it.
-#[tactic(auto, using(crate::proofs::Choices::equals_found, crate::proofs::Choices::equals_none))]
+#[tactic(auto, unfolding(crate::specs::Syntax::behind_equals))]
 pub fn pass_equals(cursor: &mut Cursor) -> bool
     ensures { MatchBool result (behind_equals cursor.old.left ≡ Some cursor.new.left) (behind_equals cursor.old.left ≡ None) }
 {
@@ -69,7 +69,7 @@ pub fn pass_equals(cursor: &mut Cursor) -> bool
 }
 
 /// Passes a closing brace with the space before it.
-#[tactic(auto, using(crate::proofs::Choices::closing_brace_found, crate::proofs::Choices::closing_brace_none))]
+#[tactic(auto, unfolding(crate::specs::Syntax::behind_brace))]
 pub fn pass_closing(cursor: &mut Cursor) -> bool
     ensures { MatchBool result (behind_brace cursor.old.left ≡ Some cursor.new.left) (behind_brace cursor.old.left ≡ None) }
 {
@@ -78,7 +78,7 @@ pub fn pass_closing(cursor: &mut Cursor) -> bool
 }
 
 /// Passes an opening brace with the space behind it.
-#[tactic(auto, using(crate::proofs::Choices::opening_brace_found, crate::proofs::Choices::opening_brace_none))]
+#[tactic(auto, unfolding(crate::specs::Syntax::inside))]
 pub fn pass_opening(cursor: &mut Cursor) -> bool
     ensures { MatchBool result (inside cursor.old.left ≡ Some cursor.new.left) (inside cursor.old.left ≡ None) }
 {

@@ -1,5 +1,5 @@
 -- The text so far was passed, and no character that stands for itself is next.
-use Rattle.std.proofs.Common.{◌≡◌, false, chars, length, string_bytes}
+use Rattle.std.proofs.Common.{◌≡◌, false, length}
 use Rattle.mf_text.specs.Characters.{is_text}
 use Rattle.mf_lex.specs.Reading.{is_next}
 use Rattle.mf_parse.proofs.Texts.{Passed}
@@ -7,7 +7,7 @@ use Rattle.mf_parse.proofs.pattern.text.Given as goal
 
 abbrev pub invariant-loop-c : goal.invariant-loop-c
 invariant-loop-c l = record {
-  passed : Passed (chars (string_bytes l.text)) l.fn.cursor.left l.cursor.left;
+  passed : Passed l.text l.fn.cursor.left l.cursor.left;
   end : is_next is_text l.cursor.left ≡ false;
 }
 
