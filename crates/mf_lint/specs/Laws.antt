@@ -4,8 +4,10 @@ use Rattle.mf_tree.specs.declared.message.Message.{Message}
 use Rattle.mf_tree.specs.Canonical.{canonical}
 use Rattle.mf_tree.specs.Nodes.{IsMessage}
 use Rattle.mf_tree.specs.Spells.{SpellsMessage}
+use Rattle.mf_lint.specs.declared.linting.Linted.{Linted}
 use Rattle.mf_lint.specs.declared.linting.Linted.TheVariants.{Valid}
-use Rattle.mf_lint.specs.Lint.{lint_of}
+use Rattle.mf_lint.specs.Computed.{lint_of}
+use Rattle.mf_lint.specs.Lint.{Lints}
 
 -- the canonical source of a message spells that message, and no other
 abbrev pub CanonicalIsSpelledBack : Type 0
@@ -24,4 +26,12 @@ CanonicalTellsNodes =
 
 -- the canonical form of a source has itself as its canonical form
 abbrev pub LintIsStable : Type 0
-LintIsStable = (source printed : List ℕ) → lint_of source ≡ Valid printed → lint_of printed ≡ Valid printed
+LintIsStable = (source printed : List ℕ) → Lints source (Valid printed) → Lints printed (Valid printed)
+
+-- one thing is said of a source
+abbrev pub LintsOne : Type 0
+LintsOne = (source : List ℕ) (one other : Linted) → Lints source one → Lints source other → one ≡ other
+
+-- what is said of a source is what is computed
+abbrev pub LintIsComputed : Type 0
+LintIsComputed = (source : List ℕ) (linted : Linted) → (linted ≡ lint_of source) ↔ Lints source linted

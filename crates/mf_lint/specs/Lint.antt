@@ -1,17 +1,14 @@
--- What there is to say of a source.
-use Rattle.std.specs.Prelude.{ℕ, List}
+-- What is said of a source: its canonical form, or the errors that make it invalid.
+use Rattle.std.specs.Prelude.{◌≡◌, ℕ, List}
+use Rattle.mf_tree.specs.declared.message.Message.{Message}
 use Rattle.mf_tree.specs.Canonical.{canonical}
-use Rattle.mf_plan.specs.declared.plan.Plan.{Plan}
-use Rattle.mf_plan.specs.declared.plan.Plan.TheVariants as plan
-use Rattle.mf_plan.specs.Plans.{plan_of}
+use Rattle.mf_tree.specs.Compiled as compiled
+use Rattle.mf_tree.specs.Compiled.{Compiled}
 use Rattle.mf_lint.specs.declared.linting.Linted.{Linted}
 use Rattle.mf_lint.specs.declared.linting.Linted.TheVariants.{Valid, Invalid}
+pub use Rattle.mf_lint.specs.Computed.{lint_of}
 
--- what there is to say of what a source compiles to
-abbrev pub lint_from : Plan → Linted
-lint_from (plan.Valid message) = Valid (canonical message)
-lint_from (plan.Invalid faults) = Invalid faults
-
--- the canonical form of a source, or the errors that make it invalid
-abbrev pub lint_of : List ℕ → Linted
-lint_of source = lint_from (plan_of source)
+-- a source that compiles to a message is valid, and has the canonical source of that message; another has its errors
+abbrev pub Lints : List ℕ → Linted → Type 0
+Lints source (Valid printed) = (message : Message) × Compiled source (compiled.Valid message) × (printed ≡ canonical message)
+Lints source (Invalid faults) = Compiled source (compiled.Invalid faults)

@@ -1,5 +1,5 @@
 //! What holds of canonical sources: each clause is a theorem over the definitions alone.
-ghost use Rattle.mf_lint.specs.Laws.{CanonicalIsSpelledBack, CanonicalIsStable, CanonicalTellsNodes, LintIsStable};
+ghost use Rattle.mf_lint.specs.Laws.{CanonicalIsSpelledBack, CanonicalIsStable, CanonicalTellsNodes, LintIsComputed, LintIsStable, LintsOne};
 
 /// A message that is printed and read again is the same message.
 pub fn what_is_printed_is_read_back()
@@ -19,4 +19,14 @@ pub fn canonical_sources_tell_messages()
 /// A canonical source that is linted is valid, and its own canonical source.
 pub fn linting_is_stable()
     ensures { LintIsStable }
+{}
+
+/// One thing is said of a source that is linted.
+pub fn each_source_is_linted_to_one()
+    ensures { LintsOne }
+{}
+
+/// The function `lint_of` of the definitions gives what is said of each source, and that alone.
+pub fn what_is_linted_is_computed()
+    ensures { LintIsComputed }
 {}

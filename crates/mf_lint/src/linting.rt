@@ -1,5 +1,6 @@
 ghost use Rattle.std.specs.Prelude.{◌≡◌, IfOk, chars};
-ghost use Rattle.mf_lint.specs.Lint.{lint_of};
+ghost use Rattle.mf_lint.specs.Computed.{lint_of};
+ghost use Rattle.mf_lint.specs.Lint.{Lints};
 
 use mf_plan::Plan;
 use mf_print::print;
@@ -18,8 +19,10 @@ pub enum Linted {
 
 /// What there is to say of a source. Source: Unicode TS 35, Part 9, "Syntax Errors" and "Data Model Errors"; the choice
 /// of a canonical source is this project's own.
+#[tactic(auto, using(crate::proofs::Lints::valid_lints, crate::proofs::Lints::invalid_computed))]
 pub fn lint(alloc: Global, source: &str) -> Result<Linted, AllocError>
-    ensures { IfOk result (λ linted. linted ≡ lint_of (chars source.now)) }
+    ensures lints { IfOk result (λ linted. Lints (chars source.now) linted) }
+    ensures computed { IfOk result (λ linted. linted ≡ lint_of (chars source.now)) }
 {
     match Plan::of(alloc, source)? {
         Plan::Valid(message) => Ok(Linted::Valid(print(alloc, &message)?)),

@@ -16,7 +16,8 @@ use Rattle.mf_parse.proofs.SoundMessages.{message_sound}
 use Rattle.mf_tree.specs.Nodes.{IsMessage}
 use Rattle.mf_tree.proofs.Nodes.{message as spelled_node}
 use Rattle.mf_plan.specs.declared.plan.Plan.{Plan}
-use Rattle.mf_plan.specs.Plans.{checked, compilation, invalid, plan_from, plan_of, with_faults, IsNode}
+use Rattle.mf_plan.specs.Computed.{checked, invalid, plan_from, plan_of, with_faults}
+use Rattle.mf_plan.specs.Plans.{compilation, IsNode}
 
 some : (fault : Fault) (more : List Fault) → fault ∷ more ≡ [] → ⊥
 some fault more same = cc
@@ -74,7 +75,3 @@ plan_node source plan is = subst IsNode (sym is) (found_node source (message_of 
 pub limit_text : chars (codes "declarations") ≡ codes "declarations"
 unfolding chars
 limit_text = refl
-
-pub no_text : chars [] ≡ []
-unfolding chars
-no_text = refl

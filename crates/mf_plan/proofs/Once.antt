@@ -12,7 +12,10 @@ use Rattle.mf_tree.specs.Spells.{SpellsMessage}
 use Rattle.mf_parse.specs.Syntax.{message_of}
 use Rattle.mf_parse.proofs.Messages.{message_complete}
 use Rattle.mf_parse.proofs.SoundMessages.{message_sound}
-use Rattle.mf_plan.specs.Plans.{checked, compilation, invalid, plan_from, plan_of, with_faults}
+use Rattle.mf_plan.specs.Computed.{checked, invalid, plan_from, plan_of, with_faults}
+use Rattle.mf_plan.specs.Plans.{compilation}
+use Rattle.mf_plan.specs.declared.plan.Plan.{Plan}
+use Rattle.mf_plan.specs.declared.plan.Plan.TheVariants as plan
 
 -- what a source without a message compiles to
 nothing : (source : List ℕ) → ((message : Message) → SpellsMessage message source → ⊥) → (found : Option Message) → message_of source ≡ found
@@ -25,8 +28,8 @@ some_faults message [] some = absurd (some refl)
 some_faults message (fault ∷ more) some = refl
 
 module _ (source : List ℕ) (message : Message) (spelled : SpellsMessage message source) where
-  planned : plan_of source ≡ checked message
-  planned = ap plan_from (message_complete source message spelled)
+  of_message : plan_of source ≡ checked message
+  of_message = ap plan_from (message_complete source message spelled)
 
   few_planned : length message.declarations ≤ most_declarations → checked message ≡ with_faults message (faults message)
   few_planned few = cond-true (nat_le (length message.declarations) most_declarations) _ _ (le-leb (length message.declarations) most_declarations few)
@@ -38,11 +41,21 @@ module _ (source : List ℕ) (message : Message) (spelled : SpellsMessage messag
 is_planned : (source : List ℕ) (result : Compilation) → Compiled source result → result ≡ compilation (plan_of source)
 is_planned source result (compiled_to_nothing unspelled) = nothing source unspelled (message_of source) refl
 is_planned source result (compiled_past_the_limit message spelled many) =
-    ap compilation (sym (planned source message spelled ∙ many_planned source message spelled many))
+    ap compilation (sym (of_message source message spelled ∙ many_planned source message spelled many))
 is_planned source result (compiled_with_faults message spelled few some) =
-    some_faults message (faults message) some ∙ ap compilation (sym (planned source message spelled ∙ few_planned source message spelled few))
+    some_faults message (faults message) some ∙ ap compilation (sym (of_message source message spelled ∙ few_planned source message spelled few))
 is_planned source result (compiled_to_a_message message spelled few without) =
-    ap (λ found. compilation (with_faults message found)) (sym without) ∙ ap compilation (sym (planned source message spelled ∙ few_planned source message spelled few))
+    ap (λ found. compilation (with_faults message found)) (sym without) ∙ ap compilation (sym (of_message source message spelled ∙ few_planned source message spelled few))
 
 pub compiled_once : (source : List ℕ) (one other : Compilation) → Compiled source one → Compiled source other → one ≡ other
 compiled_once source one other is is_too = is_planned source one is ∙ sym (is_planned source other is_too)
+
+same_plan : (one other : Plan) → compilation one ≡ compilation other → one ≡ other
+same_plan (plan.Valid message) (plan.Valid other) same = cc
+same_plan (plan.Valid message) (plan.Invalid faults) same = cc
+same_plan (plan.Invalid faults) (plan.Valid message) same = cc
+same_plan (plan.Invalid faults) (plan.Invalid others) same = cc
+
+-- so a plan that says what a source compiles to is the computed one
+pub planned : (source : List ℕ) (plan : Plan) → Compiled source (compilation plan) → plan ≡ plan_of source
+planned source plan is = same_plan plan (plan_of source) (is_planned source (compilation plan) is)

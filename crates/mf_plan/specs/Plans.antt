@@ -1,43 +1,18 @@
--- What a source compiles to, computed (Unicode TS 35, Part 9, "Syntax Errors" and "Data Model Errors").
-use Rattle.std.specs.Prelude.{ℕ, List, [], ◌∷◌, length, nat_le, codes, Option, Some, None, if◌then◌else◌}
-use Rattle.mf_tree.specs.declared.message.Message.{Message}
-use Rattle.mf_tree.specs.declared.fault.Kind.{Kind}
-use Rattle.mf_tree.specs.declared.fault.Kind.TheVariants as kind
-use Rattle.mf_tree.specs.declared.fault.Fault.{Fault}
+-- What a plan says, in the words of the definition of what a source compiles to.
+use Rattle.std.specs.Prelude.{ℕ, List}
 use Rattle.mf_tree.specs.Compiled as compiled
-use Rattle.mf_tree.specs.Compiled.{Compilation, most_declarations}
-use Rattle.mf_tree.specs.Faults.{faults}
+use Rattle.mf_tree.specs.Compiled.{Compilation, Compiled}
 use Rattle.mf_tree.specs.Nodes.{IsMessage}
-use Rattle.mf_parse.specs.Syntax.{message_of}
 use Rattle.mf_plan.specs.declared.plan.Plan.{Plan}
 use Rattle.mf_plan.specs.declared.plan.Plan.TheVariants.{Invalid, Valid}
 
--- what has one error alone
-abbrev pub invalid : Kind → List ℕ → Plan
-invalid kind of = Invalid (record { kind = kind; of = of } ∷ [])
-
--- a message with these errors
-abbrev pub with_faults : Message → List Fault → Plan
-with_faults message [] = Valid message
-with_faults message (fault ∷ faults) = Invalid (fault ∷ faults)
-
--- what a message compiles to
-abbrev pub checked : Message → Plan
-checked message =
-    if nat_le (length message.declarations) most_declarations then with_faults message (faults message) else invalid kind.Limit (codes "declarations")
-
-abbrev pub plan_from : Option Message → Plan
-plan_from None = invalid kind.Syntax []
-plan_from (Some message) = checked message
-
--- what a source compiles to
-abbrev pub plan_of : List ℕ → Plan
-plan_of source = plan_from (message_of source)
-
--- the same in the words of the definition
 abbrev pub compilation : Plan → Compilation
 compilation (Invalid faults) = compiled.Invalid faults
 compilation (Valid message) = compiled.Valid message
+
+-- the source compiles to what the plan says
+abbrev pub CompilesTo : List ℕ → Plan → Type 0
+CompilesTo source plan = Compiled source (compilation plan)
 
 -- the message of a plan, if it has one, is a node
 abbrev pub IsNode : Plan → Type 0

@@ -1,8 +1,8 @@
 //! Sources compiled.
-ghost use Rattle.std.specs.Prelude.{◌≡◌, IfOk, [], chars, codes};
+ghost use Rattle.std.specs.Prelude.{◌≡◌, IfOk, chars, codes};
 ghost use Rattle.mf_tree.specs.Faults.{faults as faults_of};
-ghost use Rattle.mf_tree.specs.Compiled.{Compiled};
-ghost use Rattle.mf_plan.specs.Plans.{checked, compilation, invalid, plan_of, with_faults, IsNode};
+ghost use Rattle.mf_plan.specs.Computed.{checked, invalid, plan_of, with_faults};
+ghost use Rattle.mf_plan.specs.Plans.{CompilesTo, IsNode};
 
 use crate::plan::Plan;
 use mf_check::faults;
@@ -19,8 +19,7 @@ impl Plan {
     /// 256 declarations, else the message's errors, or the message where it has none.
     #[tactic(auto, using(crate::proofs::Computed::plan_compiled, crate::proofs::Computed::plan_node))]
     pub fn of(alloc: Global, source: &str) -> Result<Plan, AllocError>
-        ensures computed { IfOk result (λ plan. plan ≡ plan_of (chars source.now)) }
-        ensures compiled { IfOk result (λ plan. Compiled (chars source.now) (compilation plan)) }
+        ensures compiled { IfOk result (λ plan. CompilesTo (chars source.now) plan) }
         ensures node { IfOk result (λ plan. IsNode plan) }
     {
         let plan = compile(alloc, source)?;
@@ -34,7 +33,7 @@ fn compile(alloc: Global, source: &str) -> Result<Plan, AllocError>
 {
     match parse(alloc, source) {
         Ok(message) => check(alloc, message),
-        Err(ParseError::Syntax) => invalid(alloc, Kind::Syntax, nothing(alloc)),
+        Err(ParseError::Syntax) => invalid(alloc, Kind::Syntax, Text::new(alloc)),
         Err(ParseError::OutOfMemory) => Err(AllocError),
     }
 }
@@ -46,17 +45,8 @@ fn check(alloc: Global, message: Message) -> Result<Plan, AllocError>
     if message.declarations.len() <= MOST_DECLARATIONS {
         check_few(alloc, message)
     } else {
-        let of = declarations(alloc)?;
-        invalid(alloc, Kind::Limit, of)
+        invalid(alloc, Kind::Limit, declarations(alloc)?)
     }
-}
-
-/// A text of no characters, which takes no memory.
-#[tactic(auto, using(crate::proofs::Computed::no_text))]
-fn nothing(alloc: Global) -> Text
-    ensures { result ≡ [] }
-{
-    Text::from(String::new(alloc))
 }
 
 /// The word `declarations`.

@@ -1,5 +1,5 @@
-use Rattle.mf_lint.proofs.Canonical.{lint_stable}
+use Rattle.mf_lint.proofs.Lints.{stable}
 use Rattle.mf_lint.proofs.laws.linting_is_stable.Goals as goal
 
 pub returns : goal.returns
-returns c = lint_stable
+returns c = stable
