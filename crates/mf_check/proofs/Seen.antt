@@ -18,7 +18,8 @@ use Rattle.mf_tree.specs.declared.message.Key.{Key}
 use Rattle.mf_tree.specs.declared.message.Key.TheVariants as Keys
 use Rattle.mf_tree.specs.Equality.{is_same_identifier, is_same_key, is_same_keys, is_same_name}
 use Rattle.mf_check.specs.KeyValues.{key_value}
-use Rattle.mf_check.specs.Seen.{key_values_cmp, value_cmp, values_cmp, AreKeyValuesOf, AreSeen, AreSeenToo, AreValuesOf, IsValueOf, KeyValues, Value, Values}
+use Rattle.mf_check.specs.Seen.{value_cmp, AreSeen, AreSeenToo, AreValuesOf, IsValueOf, Value, Values}
+use Rattle.mf_check.proofs.SeenKeys.{key_values_cmp, values_cmp, AreKeyValuesOf, KeyValues}
 
 or_swapped : (a b : Bool) → (a || b) ≡ (b || a)
 or_swapped true true = refl

@@ -1,4 +1,4 @@
--- How the annotation of a variable is found.
+-- For private clauses: how the annotation of a variable is found.
 use Rattle.std.specs.Prelude.{◌≡◌, Bool, true, false, List, Option}
 use Rattle.std.specs.Borrow.{Bor}
 use Rattle.std.specs.BTreeMap.{BTreeMap, get}

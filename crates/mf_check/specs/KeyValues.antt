@@ -1,4 +1,4 @@
--- What keys are compared by.
+-- For private clauses: what keys are compared by.
 use Rattle.std.specs.Prelude.{ℕ, List, Option, Some, None}
 use Rattle.unicode_normalization.specs.Forms.{nfc}
 use Rattle.mf_tree.specs.declared.message.Key.{Key}

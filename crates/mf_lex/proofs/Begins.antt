@@ -4,7 +4,7 @@ use Rattle.std.proofs.lemmas.Bool.{cases_Bool, and_parts}
 use Rattle.std.proofs.lemmas.List.{append-nil}
 use Rattle.std.specs.List.{list_all}
 use Rattle.mf_text.specs.Languages.{Language, Joined, Begins, Any}
-use Rattle.mf_lex.specs.Reading.{run, behind_run}
+use Rattle.mf_lex.specs.Computed.{run, behind_run}
 use Rattle.mf_lex.proofs.Runs.{run_more, run_ends, behind_more, run_splits}
 use Rattle.mf_lex.proofs.Gathering.{pair_second}
 

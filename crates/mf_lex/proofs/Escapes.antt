@@ -3,8 +3,8 @@ use Rattle.std.proofs.Common.{◌≡◌, ℕ, true, Some, None, List, [], ◌∷
 use Rattle.std.proofs.lemmas.Bool.{cond-true, eq-eqb}
 use Rattle.mf_text.specs.Characters.{is_escapable}
 use Rattle.mf_text.specs.Languages.{Word, Begins, BeginsNone, BeginsLongest}
-use Rattle.mf_text.specs.Lexical.{SpellsEscapedChar}
-use Rattle.mf_lex.specs.Reading.{one_at, escape_at}
+use Rattle.mf_text.specs.Grammar.{SpellsEscapedChar}
+use Rattle.mf_lex.specs.Computed.{one_at, escape_at}
 use Rattle.mf_lex.proofs.Begins.{same_left, same_length}
 use Rattle.mf_lex.proofs.Gathering.{one_parts, escape_parts, nothing_found}
 

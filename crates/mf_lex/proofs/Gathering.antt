@@ -4,7 +4,7 @@ use Rattle.std.proofs.lemmas.Bool.{cases_Bool, cond-true, cond-false, eqb-true, 
 use Rattle.std.proofs.lemmas.List.{append-nil}
 use Rattle.std.specs.Option.{option_map, option_and_then}
 use Rattle.mf_text.specs.Characters.{is_quoted, is_escapable}
-use Rattle.mf_lex.specs.Reading.{is_next, run, behind_run, one_at, escaped, escape_at, onto, with_front, quoted_from, gathered}
+use Rattle.mf_lex.specs.Computed.{is_next, run, behind_run, one_at, escaped, escape_at, onto, with_front, quoted_from, gathered}
 use Rattle.mf_lex.proofs.Runs.{run_more, run_ends, behind_more, behind_ends, run_splits}
 
 -- a character that is next

@@ -3,9 +3,9 @@ use Rattle.std.proofs.Common.{◌≡◌, ℕ, ◌≤◌, false, Option, Some, No
 use Rattle.std.specs.Option.{option_map, option_and_then}
 use Rattle.mf_text.specs.Characters.{is_name_char}
 use Rattle.mf_text.specs.Languages.{Word, Begins, BeginsNone, BeginsLongest}
-use Rattle.mf_text.specs.Lexical.{SpellsName, SpellsNamespace, SpellsIdentifier}
+use Rattle.mf_text.specs.Grammar.{SpellsName, SpellsNamespace, SpellsIdentifier}
 use Rattle.mf_lex.specs.declared.ident.Ident.{Ident}
-use Rattle.mf_lex.specs.Reading.{is_next, run, behind_run, one_at, after_mark, name_at, second_name_at, with_first_name, identifier_at}
+use Rattle.mf_lex.specs.Computed.{is_next, run, behind_run, one_at, after_mark, name_at, second_name_at, with_first_name, identifier_at}
 use Rattle.mf_lex.specs.Readers.{SpellsIdent}
 use Rattle.mf_lex.proofs.Begins.{begins_whole, parted, joined}
 use Rattle.mf_lex.proofs.Gathering.{nothing_found, one_parts, pair_first}

@@ -5,8 +5,8 @@ use Rattle.std.proofs.lemmas.List.{append-nil}
 use Rattle.std.specs.Option.{option_map}
 use Rattle.mf_text.specs.Characters.{is_name_char, is_quoted, is_escapable}
 use Rattle.mf_text.specs.Languages.{Word, Each, Begins, BeginsNone, BeginsLongest, ◌⋅◌}
-use Rattle.mf_text.specs.Lexical.{is_unquoted, SpellsQuotedPart, SpellsQuotedLiteral, SpellsUnquotedLiteral, SpellsLiteral}
-use Rattle.mf_lex.specs.Reading.{is_next, run, behind_run, onto, with_front, quoted_from, gathered, literal_at}
+use Rattle.mf_text.specs.Grammar.{is_unquoted, SpellsQuotedPart, SpellsQuotedLiteral, SpellsUnquotedLiteral, SpellsLiteral}
+use Rattle.mf_lex.specs.Computed.{is_next, run, behind_run, onto, with_front, quoted_from, gathered, literal_at}
 use Rattle.mf_lex.proofs.Begins.{begins_whole, parted, joined, run_passes, behind_passes, all_are_of, of_are_all, run_is_of, same_left, same_length}
 use Rattle.mf_lex.proofs.Gathering.{nothing_found, pair_first, pair_second, mapped_twice, gathered_nothing, quoted_plain, quoted_escape, run_shortens}
 use Rattle.mf_lex.proofs.Members.{bar_is_no_name_char}

@@ -6,12 +6,11 @@ use Rattle.std.specs.List.{list_all}
 use Rattle.std.specs.Option.{option_map}
 use Rattle.mf_text.specs.Characters.{is_bidi, is_name_start, is_name_char}
 use Rattle.mf_text.specs.Languages.{One, Optional, Begins, BeginsNone, BeginsLongest, ◌⋅◌}
-use Rattle.mf_text.specs.Lexical.{is_bare_name, SpellsBareName, SpellsName}
-use Rattle.mf_text.proofs.Classes.{mark_is_no_name_char}
-use Rattle.mf_lex.specs.Reading.{is_next, run, behind_run, after_mark, bare_name_at, name_at}
+use Rattle.mf_text.specs.Grammar.{is_bare_name, SpellsBareName, SpellsName}
+use Rattle.mf_text.proofs.Classes.{mark_is_no_name_char, name_start_is_name_char, name_start_is_no_mark}
+use Rattle.mf_lex.specs.Computed.{is_next, run, behind_run, after_mark, bare_name_at, name_at}
 use Rattle.mf_lex.proofs.Begins.{begins_whole, parted, joined, run_passes, behind_passes, all_are_of, of_are_all, run_is_of, same_left}
 use Rattle.mf_lex.proofs.Gathering.{nothing_found, pair_first, pair_second, run_shortens}
-use Rattle.mf_lex.proofs.Members.{name_start_is_name_char, name_start_is_no_mark}
 use Rattle.mf_lex.proofs.Runs.{run_more, run_ends, behind_ends, run_splits}
 
 -- a mark that is next, and one that isn't

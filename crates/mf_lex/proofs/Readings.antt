@@ -1,20 +1,16 @@
 -- What is found by the functions is read by the rules.
 use Rattle.std.proofs.Common.{◌≡◌, ℕ, Bool, true, false, Option, Some, None, List, [], ◌∷◌, sym, subst, MatchBool}
 use Rattle.mf_text.specs.Languages.{Word}
-use Rattle.mf_text.specs.Lexical.{O, S, SpellsEscapedChar, SpellsName, SpellsLiteral}
+use Rattle.mf_text.specs.Grammar.{O, S, SpellsEscapedChar, SpellsName, SpellsLiteral}
 use Rattle.mf_lex.specs.declared.ident.Ident.{Ident}
 use Rattle.mf_lex.specs.Cursor.{Place}
-use Rattle.mf_lex.specs.Reading.{one_at, after_space, has_space, escape_at, name_at, identifier_at, literal_at}
+use Rattle.mf_lex.specs.Computed.{one_at, after_space, has_space, escape_at, name_at, identifier_at, literal_at}
 use Rattle.mf_lex.specs.Readers.{Finds, Reads, Passes, SpellsIdent}
 use Rattle.mf_lex.proofs.Escapes.{one_found, one_none, escape_found, escape_none}
 use Rattle.mf_lex.proofs.Identifiers.{identifier_found, identifier_none}
 use Rattle.mf_lex.proofs.Literals.{literal_found, literal_none}
 use Rattle.mf_lex.proofs.Names.{name_found, name_none}
 use Rattle.mf_lex.proofs.Spaces.{o_found, s_found, s_none}
-
-pub one_passes : (c : ℕ) (passed : Bool) (old new : List ℕ) → MatchBool passed (one_at c old ≡ Some new) (one_at c old ≡ None) → Passes (Word (c ∷ [])) passed old new
-one_passes c true old new finds = one_found c old new finds
-one_passes c false old new none = one_none c old none
 
 pub o_passes : (old new : List ℕ) → new ≡ after_space old → Passes O true old new
 o_passes old new is = subst (Passes O true old) (sym is) (o_found old)

@@ -3,7 +3,7 @@ use Rattle.std.proofs.Common.{◌≡◌, ℕ, Bool, true, false, List, [], ◌�
 use Rattle.std.proofs.lemmas.Bool.{cases_Bool, cond-true, cond-false}
 use Rattle.std.proofs.lemmas.List.{append_cancel_right}
 use Rattle.mf_lex.specs.Cursor.{EndsWith}
-use Rattle.mf_lex.specs.Reading.{is_next, run, behind_run}
+use Rattle.mf_lex.specs.Computed.{is_next, run, behind_run}
 
 -- a run that goes on
 pub run_more : (p : ℕ → Bool) (c : ℕ) (cs : List ℕ) → p c ≡ true → run p (c ∷ cs) ≡ c ∷ run p cs

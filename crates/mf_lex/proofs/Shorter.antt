@@ -3,10 +3,10 @@ use Rattle.std.proofs.Common.{◌≡◌, ℕ, ◌<◌, ◌≤◌, Bool, true, fa
 use Rattle.std.proofs.lemmas.Bool.{false≢true}
 use Rattle.mf_text.specs.Characters.{is_ws, is_bidi, is_space}
 use Rattle.mf_text.specs.Languages.{Language, Joined, Word, One, Any, Optional, Maybe, Each, Begins, ◌⋅◌}
-use Rattle.mf_text.specs.Lexical.{O, S, is_bare_name, is_unquoted, SpellsBareName, SpellsName, SpellsNamespace, SpellsQuotedPart, SpellsQuotedLiteral, SpellsLiteral, SpellsEscapedChar}
+use Rattle.mf_text.specs.Grammar.{O, S, is_bare_name, is_unquoted, SpellsBareName, SpellsName, SpellsNamespace, SpellsQuotedPart, SpellsQuotedLiteral, SpellsLiteral, SpellsEscapedChar}
 use Rattle.mf_lex.specs.declared.ident.Ident.{Ident}
 use Rattle.mf_lex.specs.Cursor.{Place}
-use Rattle.mf_lex.specs.Reading.{after_space, has_space, escape_at, name_at, identifier_at, literal_at}
+use Rattle.mf_lex.specs.Computed.{after_space, has_space, escape_at, name_at, identifier_at, literal_at}
 use Rattle.mf_lex.specs.Readers.{Finds, Shortens, SpellsIdent}
 use Rattle.mf_lex.proofs.Escapes.{escape_found}
 use Rattle.mf_lex.proofs.Gathering.{run_shortens}

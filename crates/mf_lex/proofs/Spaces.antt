@@ -3,11 +3,11 @@ use Rattle.std.proofs.Common.{◌≡◌, ℕ, true, false, List, [], ◌∷◌, 
 use Rattle.std.proofs.lemmas.Bool.{false≢true}
 use Rattle.mf_text.specs.Characters.{is_ws, is_bidi, is_space}
 use Rattle.mf_text.specs.Languages.{One, Any, Begins, BeginsNone, BeginsLongest, ◌⋅◌}
-use Rattle.mf_text.specs.Lexical.{O, S}
-use Rattle.mf_lex.specs.Reading.{is_next, behind_run, after_space, has_space}
+use Rattle.mf_text.specs.Grammar.{O, S}
+use Rattle.mf_lex.specs.Computed.{is_next, behind_run, after_space, has_space}
 use Rattle.mf_lex.proofs.Begins.{parted, joined, run_begins, behind_passes, wider_passes}
 use Rattle.mf_lex.proofs.Gathering.{run_shortens}
-use Rattle.mf_lex.proofs.Members.{ws_is_no_mark, ws_is_space, mark_is_space}
+use Rattle.mf_text.proofs.Classes.{ws_is_no_mark, ws_is_space, mark_is_space}
 use Rattle.mf_lex.proofs.Runs.{behind_more, behind_ends}
 
 -- the longest text of `o`
@@ -21,10 +21,6 @@ o_found cs = record {
   begins = run_begins is_space cs;
   longest = λ u others begins. omega (arith, ap length (o_passes cs others begins), run_shortens is_space others);
 }
-
-pub o_complete : (cs left : List ℕ) → Begins O cs left → is_next is_space left ≡ false → after_space cs ≡ left
-unfolding after_space
-o_complete cs left begins ends = o_passes cs left begins ∙ behind_ends is_space left ends
 
 -- a text of `s` is one of `o`, and has a white space
 pub s_passes : (cs others : List ℕ) → Begins S cs others → (has_space cs ≡ true) × (after_space cs ≡ after_space others)
@@ -72,7 +68,3 @@ s_found cs has = record {
 pub s_none : (cs : List ℕ) → has_space cs ≡ false → BeginsNone {X = Unit {0}} (λ u. S) cs
 unfolding after_space has_space
 s_none cs none u left begins = false≢true (sym none ∙ (s_passes cs left begins).0)
-
-pub s_complete : (cs left : List ℕ) → Begins S cs left → is_next is_space left ≡ false → (has_space cs ≡ true) × (after_space cs ≡ left)
-unfolding after_space has_space
-s_complete cs left begins ends = ((s_passes cs left begins).0, (s_passes cs left begins).1 ∙ behind_ends is_space left ends)

@@ -1,4 +1,4 @@
--- The classes of characters that the readers pass.
+-- For private clauses: the classes of characters that the readers pass.
 use Rattle.std.specs.Prelude.{ℕ, Bool}
 use Rattle.mf_text.specs.Characters.{is_ws, is_bidi, is_space, is_name_char, is_quoted, is_text}
 use Rattle.mf_lex.specs.declared.class.Class.{Class}

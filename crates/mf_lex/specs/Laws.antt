@@ -1,7 +1,7 @@
 -- What holds of every text.
 use Rattle.std.specs.Prelude.{◌≡◌, ℕ, List}
 use Rattle.mf_text.specs.Languages.{Language}
-use Rattle.mf_text.specs.Lexical.{SpellsName, SpellsLiteral}
+use Rattle.mf_text.specs.Grammar.{SpellsName, SpellsLiteral}
 use Rattle.mf_lex.specs.Readers.{SpellsIdent}
 
 -- each text spells at most one value

@@ -1,7 +1,7 @@
 -- What a reader does: by the function that computes it, and by its rule.
 use Rattle.std.specs.Prelude.{◌≡◌, ◌<◌, ℕ, length, Bool, true, false, List, Option, Some, None}
 use Rattle.mf_text.specs.Languages.{Language, BeginsNone, BeginsLongest}
-use Rattle.mf_text.specs.Lexical.{SpellsIdentifier}
+use Rattle.mf_text.specs.Grammar.{SpellsIdentifier}
 use Rattle.mf_lex.specs.declared.ident.Ident.{Ident}
 
 -- an identifier in its parts

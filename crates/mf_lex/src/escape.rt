@@ -1,7 +1,7 @@
 //! One character, and escapes.
 ghost use Rattle.std.specs.Prelude.{◌≡◌, ◌∷◌, Some, None, MatchBool};
 ghost use Rattle.mf_lex.specs.Readers.{Finds};
-ghost use Rattle.mf_lex.specs.Reading.{one_at, escape_at};
+ghost use Rattle.mf_lex.specs.Computed.{one_at, escape_at};
 
 use crate::Cursor;
 use mf_text::is_escapable;
@@ -23,7 +23,7 @@ pub fn pass_one(cursor: &mut Cursor, c: char) -> bool
 }
 
 /// Passes a backslash and a character that it may stand before, which is given.
-#[tactic(auto, unfolding(crate::specs::Reading::escape_at))]
+#[tactic(auto, unfolding(crate::specs::Computed::escape_at))]
 pub fn pass_escape(cursor: &mut Cursor) -> Option<char>
     ensures computed { Finds escape_at result cursor.old.left cursor.new.left }
     ensures whole { cursor.new.whole ≡ cursor.old.whole }

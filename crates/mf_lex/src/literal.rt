@@ -1,7 +1,7 @@
 //! Literals, quoted and unquoted.
 ghost use Rattle.std.specs.Prelude.{◌≡◌, ◌≤◌, false, length, OnOk, Some, None, chars, MatchOption, IfOk, OnErr};
 ghost use Rattle.mf_lex.specs.Readers.{Finds};
-ghost use Rattle.mf_lex.specs.Reading.{is_next, gathered, literal_at, quoted_from, unquoted_at};
+ghost use Rattle.mf_lex.specs.Computed.{is_next, gathered, literal_at, quoted_from, unquoted_at};
 ghost use Rattle.mf_text.specs.Characters.{is_quoted};
 
 use crate::Cursor;
@@ -26,7 +26,7 @@ pub fn read_literal(alloc: Global, cursor: &mut Cursor) -> Result<Option<Text>, 
 }
 
 /// Passes a literal, or where there is none or no memory some part of one.
-#[tactic(auto, unfolding(crate::specs::Reading::literal_at))]
+#[tactic(auto, unfolding(crate::specs::Computed::literal_at))]
 fn read_value(alloc: Global, cursor: &mut Cursor) -> Result<Option<Text>, AllocError>
     ensures computed { IfOk result (λ found. MatchOption found (literal_at cursor.old.left ≡ None)
         (λ value. literal_at cursor.old.left ≡ Some (value, cursor.new.left))) }
@@ -55,7 +55,7 @@ fn pass_unquoted<'a>(cursor: &mut Cursor<'a>) -> Option<&'a str>
 }
 
 /// Passes what is left of a quoted literal behind its first bar, and gives its value.
-#[tactic(auto, unfolding(crate::specs::Reading::escape_at))]
+#[tactic(auto, unfolding(crate::specs::Computed::escape_at))]
 fn read_quoted(alloc: Global, cursor: &mut Cursor) -> Result<Option<Text>, AllocError>
     ensures computed { IfOk result (λ found. MatchOption found (quoted_from false cursor.old.left ≡ None)
         (λ value. quoted_from false cursor.old.left ≡ Some (value, cursor.new.left))) }

@@ -1,7 +1,7 @@
 //! Names, with the marks beside them, and identifiers.
 ghost use Rattle.std.specs.Prelude.{◌≡◌, Some, None, chars, MatchOption, IfOk, OnErr};
 ghost use Rattle.mf_lex.specs.Readers.{Finds};
-ghost use Rattle.mf_lex.specs.Reading.{after_mark, bare_name_at, name_at, second_name_at, identifier_at};
+ghost use Rattle.mf_lex.specs.Computed.{after_mark, bare_name_at, name_at, second_name_at, identifier_at};
 
 use crate::class::Class;
 use crate::escape::pass_one;
@@ -26,7 +26,7 @@ pub fn read_name(alloc: Global, cursor: &mut Cursor) -> Result<Option<Text>, All
 }
 
 /// Passes an identifier.
-#[tactic(auto, unfolding(crate::specs::Reading::identifier_at))]
+#[tactic(auto, unfolding(crate::specs::Computed::identifier_at))]
 pub fn read_identifier(alloc: Global, cursor: &mut Cursor) -> Result<Option<Ident>, AllocError>
     ensures computed { IfOk result (λ found. Finds identifier_at found cursor.old.left cursor.new.left) }
     ensures unchanged { OnErr result (cursor.new ≡ cursor.old) }
@@ -52,7 +52,7 @@ pub fn read_identifier(alloc: Global, cursor: &mut Cursor) -> Result<Option<Iden
 }
 
 /// Passes a name with the marks beside it, and gives it without them.
-#[tactic(auto, unfolding(crate::specs::Reading::name_at))]
+#[tactic(auto, unfolding(crate::specs::Computed::name_at))]
 fn pass_name<'a>(cursor: &mut Cursor<'a>) -> Option<&'a str>
     ensures computed { MatchOption result (name_at cursor.old.left ≡ None) (λ name. name_at cursor.old.left ≡ Some (chars name.now, cursor.new.left)) }
     ensures whole { cursor.new.whole ≡ cursor.old.whole }

@@ -2,9 +2,9 @@
 ghost use Rattle.std.specs.Prelude.{◌≡◌, ◌<◌, ◌≤◌, length, [], ◌∷◌, Some, None, true, false, chars, MatchBool, IfOk, OnErr};
 ghost use Rattle.mf_text.specs.Characters.{is_text};
 ghost use Rattle.mf_text.specs.Languages.{Word};
-ghost use Rattle.mf_text.specs.Lexical.{O, S, SpellsEscapedChar, SpellsName, SpellsLiteral};
+ghost use Rattle.mf_text.specs.Grammar.{O, S, SpellsEscapedChar, SpellsName, SpellsLiteral};
 ghost use Rattle.mf_lex.specs.Readers.{Finds, Reads, Passes, Shortens, SpellsIdent};
-ghost use Rattle.mf_lex.specs.Reading.{is_next, run, behind_run, one_at, escape_at, after_space, has_space, name_at, identifier_at, literal_at};
+ghost use Rattle.mf_lex.specs.Computed.{is_next, run, behind_run, one_at, escape_at, after_space, has_space, name_at, identifier_at, literal_at};
 
 use crate::class::Class;
 use crate::escape::{pass_escape, pass_one};

@@ -2,7 +2,7 @@
 ghost use Rattle.std.specs.Prelude.{◌≡◌, ◌<◌, ◌++◌, true, false, chars, length, MatchBool};
 ghost use Rattle.mf_lex.specs.Classes.{holds};
 ghost use Rattle.mf_lex.specs.Cursor.{EndsWith};
-ghost use Rattle.mf_lex.specs.Reading.{is_next, behind_one, run, behind_run};
+ghost use Rattle.mf_lex.specs.Computed.{is_next, behind_one, run, behind_run};
 
 use crate::Cursor;
 use crate::class::Class;

@@ -4,7 +4,7 @@ use Rattle.std.specs.Prelude.{◌↔◌}
 use Rattle.mf_tree.specs.declared.message.Message.{Message}
 use Rattle.mf_tree.specs.Canonical.{canonical}
 use Rattle.mf_tree.specs.Nodes.{IsMessage}
-use Rattle.mf_tree.specs.Spells.{SpellsMessage}
+use Rattle.mf_tree.specs.Grammar.{SpellsMessage}
 use Rattle.mf_tree.proofs.Nodes.{message as spelled_node}
 use Rattle.mf_parse.proofs.Messages.{message_once}
 use Rattle.mf_print.proofs.Messages.{message as canonical_spells}

@@ -5,7 +5,7 @@ use Rattle.mf_tree.specs.declared.fault.Fault.{Fault}
 use Rattle.mf_tree.specs.Canonical.{canonical}
 use Rattle.mf_tree.specs.Compiled as compiled
 use Rattle.mf_tree.specs.Compiled.{Compilation, Compiled, compiled_to_nothing, compiled_past_the_limit, compiled_with_faults, compiled_to_a_message}
-use Rattle.mf_tree.specs.Spells.{SpellsMessage}
+use Rattle.mf_tree.specs.Grammar.{SpellsMessage}
 use Rattle.mf_tree.proofs.Nodes.{message as spelled_node}
 use Rattle.mf_print.proofs.Messages.{message as canonical_spells}
 use Rattle.mf_plan.specs.declared.plan.Plan.{Plan}

@@ -3,7 +3,7 @@ use Rattle.std.specs.Prelude.{◌≡◌, ◌↔◌, ℕ, List}
 use Rattle.mf_tree.specs.declared.message.Message.{Message}
 use Rattle.mf_tree.specs.Canonical.{canonical}
 use Rattle.mf_tree.specs.Nodes.{IsMessage}
-use Rattle.mf_tree.specs.Spells.{SpellsMessage}
+use Rattle.mf_tree.specs.Grammar.{SpellsMessage}
 use Rattle.mf_lint.specs.declared.linting.Linted.{Linted}
 use Rattle.mf_lint.specs.declared.linting.Linted.TheVariants.{Valid}
 use Rattle.mf_lint.specs.Computed.{lint_of}

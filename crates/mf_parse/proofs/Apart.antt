@@ -7,9 +7,10 @@ use Rattle.std.specs.Option.{option_map}
 use Rattle.std.specs.Prelude.{codes}
 use Rattle.mf_text.specs.Characters.{is_ws, is_bidi, is_space, is_name_start, is_name_char}
 use Rattle.mf_text.specs.Languages.{Language, Word, ◌⋅◌, ◌∣◌, Optional, One, Any, Maybe, Each, Begins}
-use Rattle.mf_text.specs.Lexical.{O, S, SpellsName, SpellsBareName, SpellsNamespace, SpellsLiteral, SpellsQuotedPart, is_bare_name, is_unquoted}
-use Rattle.mf_lex.proofs.Members.{name_start_is_name_char, right_brace_is_no_name_char}
-use Rattle.mf_tree.specs.Spells.{Item, character, placeholder, SpellsIdentifierNode, SpellsVariable, SpellsOptionValue, SpellsOption, SpellsSpacedOption, SpellsAttributeValue, SpellsAttribute, SpellsSpacedAttribute, SpellsFunction, SpellsSpacedFunction, SpellsExpressionOf, SpellsMarkupOf, SpellsPlaceholder, SpellsItem, SpellsItems, SpellsQuotedPattern, SpellsVariant, SpellsFurtherVariant, SpellsVariants, SpellsComplexBody, SpellsComplexMessage}
+use Rattle.mf_text.specs.Grammar.{O, S, SpellsName, SpellsBareName, SpellsNamespace, SpellsLiteral, SpellsQuotedPart, is_bare_name, is_unquoted}
+use Rattle.mf_text.proofs.Classes.{name_start_is_name_char}
+use Rattle.mf_lex.proofs.Members.{right_brace_is_no_name_char}
+use Rattle.mf_tree.specs.Grammar.{Item, character, placeholder, SpellsIdentifierNode, SpellsVariable, SpellsOptionValue, SpellsOption, SpellsSpacedOption, SpellsAttributeValue, SpellsAttribute, SpellsSpacedAttribute, SpellsFunction, SpellsSpacedFunction, SpellsExpressionOf, SpellsMarkupOf, SpellsPlaceholder, SpellsItem, SpellsItems, SpellsQuotedPattern, SpellsVariant, SpellsFurtherVariant, SpellsVariants, SpellsComplexBody, SpellsComplexMessage}
 use Rattle.mf_tree.specs.declared.name.Name.{Name}
 use Rattle.mf_tree.specs.declared.name.Identifier.{Identifier}
 use Rattle.mf_tree.specs.declared.expression.Operand.{Operand}
@@ -27,7 +28,7 @@ use Rattle.mf_tree.specs.declared.expression.OptionValue.TheVariants as OptionVa
 use Rattle.mf_tree.specs.declared.pattern.Form.TheVariants as Forms
 use Rattle.mf_tree.specs.declared.pattern.Piece.TheVariants as Pieces
 use Rattle.mf_tree.specs.declared.message.Body.TheVariants as Bodies
-use Rattle.mf_parse.specs.Syntax.{goes_on}
+use Rattle.mf_parse.specs.Computed.{goes_on}
 use Rattle.mf_parse.proofs.CompleteMessages.{item_complete}
 
 -- the last character of two texts: that of the second, or of the first where the second is empty
@@ -83,13 +84,6 @@ both_once First Second one other some text front spelled ends =
             | inr more ↦ other spelled.back more.0 spelled.second (there.1 ∙ ap (λ cs. cs ++ 0x7D ∷ []) more.1 ∙ sym (two_braces more.0))
           ]
     ]
-
-joined_has_some : (First Second : Language) → HasSome First → HasSome (First ⋅ Second)
-unfolding HasSome
-joined_has_some First Second some spelled = some (subst First (front_empty spelled.front spelled.back spelled.whole) spelled.first) where
-  front_empty : (front back : List ℕ) → [] ≡ front ++ back → front ≡ []
-  front_empty [] back same = refl
-  front_empty (c ∷ front) back same = absurd (cc)
 
 second_has_some : (First Second : Language) → HasSome Second → HasSome (First ⋅ Second)
 unfolding HasSome

@@ -3,7 +3,7 @@ use Rattle.std.proofs.Common.{◌≡◌, ◌≢◌, ◌<◌, ℕ, true, false, �
 use Rattle.std.proofs.lemmas.Bool.{cases_Bool, cond-true, cond-false, or_left, or_right}
 use Rattle.std.specs.Option.{option_and_then}
 use Rattle.std.specs.Prelude.{codes}
-use Rattle.mf_lex.specs.Reading.{after_space, has_space}
+use Rattle.mf_lex.specs.Computed.{after_space, has_space}
 use Rattle.mf_tree.specs.declared.name.Name.{Name}
 use Rattle.mf_tree.specs.declared.expression.Expression.{Expression}
 use Rattle.mf_tree.specs.declared.pattern.Piece.{Piece}
@@ -13,11 +13,11 @@ use Rattle.mf_tree.specs.declared.message.Declaration.{Declaration}
 use Rattle.mf_tree.specs.declared.expression.Operand.TheVariants as Operands
 use Rattle.mf_tree.specs.declared.message.Declaration.TheVariants as Declarations
 use Rattle.mf_tree.specs.declared.message.Body.TheVariants as BodyKinds
-use Rattle.mf_parse.specs.Syntax.{Found, made, onto, word_at, is_word_at, inside, variable_at, rest_of_expression_at, input_at, local_rest, local_at, begins_declaration, declaration_at, spaced_declaration_at, declarations_at, key_at, begins_key, further_keys_at, keys_at, variant_node, quoted_pattern_at, variant_at, begins_variant, further_variants_at, variants_at, selectors_at, match_at, matcher_at}
+use Rattle.mf_parse.specs.Computed.{Found, made, onto, word_at, is_word_at, inside, variable_at, rest_of_expression_at, input_at, local_rest, local_at, begins_declaration, declaration_at, spaced_declaration_at, declarations_at, key_at, begins_key, further_keys_at, keys_at, variant_node, quoted_pattern_at, variant_at, begins_variant, further_variants_at, variants_at, selectors_at, match_at, matcher_at}
 use Rattle.mf_parse.proofs.Finding.{followed_by, followed_none, behind_by, made_by, made_none}
 use Rattle.mf_parse.proofs.Heads.{word_is}
 use Rattle.mf_parse.proofs.CompleteMessages.{is_word_next, declarations_shorten}
-use Rattle.mf_parse.proofs.Gathers.{Gathered, gathered_step, gathered_stop, gathered_none, key_none, variant_none}
+use Rattle.mf_parse.proofs.Gathers.{Gathered, gathered_step, gathered_stop, gathered_none}
 use Rattle.mf_parse.proofs.Chains.{input_found, variant_found}
 
 -- an input declaration, whose operand is a copy of its name
@@ -55,15 +55,9 @@ pub first_key : (key : Key) (cs p : List ℕ) → key_at cs ≡ Some (key, p) �
 unfolding keys_at
 first_key key cs p finds = followed_by _ _ key p finds
 
-pub further_key_none : (all : Found (List Key)) (xs : List Key) (cs place : List ℕ) → Gathered all xs (further_keys_at cs) → begins_key cs ≡ true → place ≡ after_space cs → key_at place ≡ None → all ≡ None
-further_key_none all xs cs place gathered some at none = key_none all xs cs place gathered some at none
-
 pub first_variant : (variant : Variant) (cs p : List ℕ) → variant_at cs ≡ Some (variant, p) → variants_at cs ≡ made (onto variant) (further_variants_at p)
 unfolding variants_at
 first_variant variant cs p finds = followed_by _ _ variant p finds
-
-pub further_variant_none : (all : Found (List Variant)) (xs : List Variant) (cs place : List ℕ) → Gathered all xs (further_variants_at cs) → begins_variant cs ≡ true → place ≡ after_space cs → variant_at place ≡ None → all ≡ None
-further_variant_none all xs cs place gathered some at none = variant_none all xs cs place gathered some at none
 
 -- a variant, whose space was passed
 pub variant_is : (keys : List Key) (pattern : List Piece) (cs p a left : List ℕ) → keys_at cs ≡ Some (keys, p) → a ≡ after_space p → quoted_pattern_at a ≡ Some (pattern, left) → variant_at cs ≡ Some (variant_node keys pattern, left)

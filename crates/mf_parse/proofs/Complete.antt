@@ -6,28 +6,28 @@ use Rattle.std.specs.Option.{option_map}
 use Rattle.std.specs.Prelude.{codes}
 use Rattle.mf_text.specs.Characters.{is_bidi, is_space, is_name_start, is_name_char}
 use Rattle.mf_text.specs.Languages.{Language, Word, ◌⋅◌, Optional, One, Maybe, Each, Begins}
-use Rattle.mf_text.specs.Lexical.{O, S, SpellsName, SpellsBareName, SpellsNamespace, SpellsIdentifier, SpellsLiteral, is_bare_name, is_unquoted}
-use Rattle.mf_text.proofs.Classes.{space_is_no_name_char}
-use Rattle.mf_lex.specs.Reading.{is_next, one_at, after_space, has_space, name_at, identifier_at, literal_at}
+use Rattle.mf_text.specs.Grammar.{O, S, SpellsName, SpellsBareName, SpellsNamespace, SpellsIdentifier, SpellsLiteral, is_bare_name, is_unquoted}
+use Rattle.mf_text.proofs.Classes.{space_is_no_name_char, mark_is_space, name_start_is_name_char}
+use Rattle.mf_lex.specs.Computed.{is_next, one_at, after_space, has_space, name_at, identifier_at, literal_at}
 use Rattle.mf_lex.specs.declared.ident.Ident.{Ident}
 use Rattle.mf_lex.proofs.Begins.{parted, joined}
 use Rattle.mf_lex.proofs.Escapes.{one_next}
 use Rattle.mf_lex.proofs.Identifiers.{identifier_complete}
 use Rattle.mf_lex.proofs.Literals.{literal_complete}
-use Rattle.mf_lex.proofs.Members.{mark_is_space, name_start_is_name_char, equals_is_no_name_char, dollar_is_no_name_char}
+use Rattle.mf_lex.proofs.Members.{equals_is_no_name_char, dollar_is_no_name_char}
 use Rattle.mf_lex.proofs.Names.{name_complete}
 use Rattle.mf_lex.proofs.Runs.{behind_ends}
 use Rattle.mf_lex.proofs.Spaces.{o_passes}
 use Rattle.mf_tree.proofs.Marks.{same_name}
 use Rattle.mf_tree.specs.Names.{named}
-use Rattle.mf_tree.specs.Spells.{SpellsIdentifierNode, SpellsVariable, SpellsOptionValue, SpellsOption, SpellsSpacedOption, SpellsAttributeValue, SpellsAttribute}
+use Rattle.mf_tree.specs.Grammar.{SpellsIdentifierNode, SpellsVariable, SpellsOptionValue, SpellsOption, SpellsSpacedOption, SpellsAttributeValue, SpellsAttribute}
 use Rattle.mf_tree.specs.declared.name.Name.{Name}
 use Rattle.mf_tree.specs.declared.name.Identifier.{Identifier}
 use Rattle.mf_tree.specs.declared.expression.OptionValue.{OptionValue}
 use Rattle.mf_tree.specs.declared.expression.OptionNode.{OptionNode}
 use Rattle.mf_tree.specs.declared.expression.Attribute.{Attribute}
 use Rattle.mf_tree.specs.declared.expression.OptionValue.TheVariants as OptionValues
-use Rattle.mf_parse.specs.Syntax.{made, followed, behind, onto, is_at, is_spaced, identifier_of, identifier_node_at, variable_at, option_value_at, behind_equals, option_node, option_at, spaced_option_at, options_at, attribute_value_at, attribute_node, attribute_at}
+use Rattle.mf_parse.specs.Computed.{made, followed, behind, onto, is_at, is_spaced, identifier_of, identifier_node_at, variable_at, option_value_at, behind_equals, option_node, option_at, spaced_option_at, options_at, attribute_value_at, attribute_node, attribute_at}
 use Rattle.mf_parse.proofs.Finding.{followed_by, behind_by, made_by, many_stop, many_some, Shortens}
 use Rattle.mf_parse.proofs.Heads.{spaced}
 use Rattle.mf_parse.proofs.Places.{IsPast, past_space, past_some, past_spaced, Reaches, exactly, reaches_either, Stops, stops_before, stops_spaced, at_itself, word_first, space_first, some_space_first, sign_first, some_space_is_longer, shorter}

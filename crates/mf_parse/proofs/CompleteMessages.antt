@@ -6,8 +6,8 @@ use Rattle.std.specs.Option.{option_and_then}
 use Rattle.std.specs.Prelude.{codes}
 use Rattle.mf_text.specs.Characters.{is_text, is_name_char, is_escapable}
 use Rattle.mf_text.specs.Languages.{Language, Word, ◌⋅◌, Each, Begins}
-use Rattle.mf_text.specs.Lexical.{O, S}
-use Rattle.mf_lex.specs.Reading.{is_next, one_at, after_space, has_space, escaped, literal_at}
+use Rattle.mf_text.specs.Grammar.{O, S}
+use Rattle.mf_lex.specs.Computed.{is_next, one_at, after_space, has_space, escaped, literal_at}
 use Rattle.mf_lex.proofs.Begins.{parted, begins_whole}
 use Rattle.mf_lex.proofs.Escapes.{one_next}
 use Rattle.mf_lex.proofs.Gathering.{one_parts}
@@ -15,7 +15,7 @@ use Rattle.mf_lex.proofs.Literals.{literal_complete}
 use Rattle.mf_lex.proofs.Members.{dollar_is_no_name_char, left_brace_is_no_name_char, star_is_no_name_char}
 use Rattle.mf_lex.proofs.Names.{mapped_parts}
 use Rattle.mf_lex.proofs.Spaces.{o_passes}
-use Rattle.mf_tree.specs.Spells.{Item, character, placeholder, pattern_of, EachOfSome, SpellsPlaceholder, SpellsItem, SpellsItems, SpellsQuotedPattern, SpellsVariable, SpellsVariableExpression, SpellsExpression, SpellsInputOf, SpellsLocalDeclaration, SpellsDeclaration, SpellsDeclarationAndSpace, SpellsKey, SpellsSpacedKey, SpellsKeys, SpellsVariant, SpellsFurtherVariant, SpellsVariants, SpellsSelector, SpellsMatcher, SpellsComplexBody, SpellsComplexMessage}
+use Rattle.mf_tree.specs.Grammar.{Item, character, placeholder, pattern_of, EachOfSome, SpellsPlaceholder, SpellsItem, SpellsItems, SpellsQuotedPattern, SpellsVariable, SpellsVariableExpression, SpellsExpression, SpellsInputOf, SpellsLocalDeclaration, SpellsDeclaration, SpellsDeclarationAndSpace, SpellsKey, SpellsSpacedKey, SpellsKeys, SpellsVariant, SpellsFurtherVariant, SpellsVariants, SpellsSelector, SpellsMatcher, SpellsComplexBody, SpellsComplexMessage}
 use Rattle.mf_tree.specs.declared.name.Name.{Name}
 use Rattle.mf_tree.specs.declared.expression.Operand.{Operand}
 use Rattle.mf_tree.specs.declared.expression.Expression.{Expression}
@@ -31,7 +31,7 @@ use Rattle.mf_tree.specs.declared.expression.Operand.TheVariants as Operands
 use Rattle.mf_tree.specs.declared.message.Key.TheVariants as Keys
 use Rattle.mf_tree.specs.declared.message.Declaration.TheVariants as Declarations
 use Rattle.mf_tree.specs.declared.message.Body.TheVariants as Bodies
-use Rattle.mf_parse.specs.Syntax.{Found, made, followed, placed, onto, many, word_at, is_word_at, is_at, is_spaced, variable_at, rest_of_expression_at, behind_equals, inside, inner_expression_at, expression_at, expression_node, inner_placeholder_at, placeholder_at, item_at, goes_on, pattern_at, quoted_pattern_at, input_node, input_at, local_node, local_rest, local_at, begins_declaration, declaration_at, spaced_declaration_at, declarations_at, key_at, begins_key, spaced_key_at, further_keys_at, keys_at, variant_node, variant_at, begins_variant, spaced_variant_at, further_variants_at, variants_at, spaced_variable_at, selectors_at, match_node, match_at, matcher_at, body_at, message_node, whole, complex_at}
+use Rattle.mf_parse.specs.Computed.{Found, made, followed, placed, onto, many, word_at, is_word_at, is_at, is_spaced, variable_at, rest_of_expression_at, behind_equals, inside, inner_expression_at, expression_at, expression_node, inner_placeholder_at, placeholder_at, item_at, goes_on, pattern_at, quoted_pattern_at, input_node, input_at, local_node, local_rest, local_at, begins_declaration, declaration_at, spaced_declaration_at, declarations_at, key_at, begins_key, spaced_key_at, further_keys_at, keys_at, variant_node, variant_at, begins_variant, spaced_variant_at, further_variants_at, variants_at, spaced_variable_at, selectors_at, match_node, match_at, matcher_at, body_at, message_node, whole, complex_at}
 use Rattle.mf_parse.proofs.Finding.{followed_by, behind_by, behind_parts, made_by, placed_by, many_stop, many_some, Shortens}
 use Rattle.mf_parse.proofs.Heads.{spaced, with_space, with_some_space}
 use Rattle.mf_parse.proofs.Places.{IsPast, past_space, past_some, past_spaced, Reaches, Stops, stops_before, stops_spaced, at_itself, word_only, space_first, some_space_first, some_space_is_longer, shorter}

@@ -5,13 +5,13 @@ use Rattle.std.specs.Option.{option_map, option_and_then}
 use Rattle.std.specs.Prelude.{codes}
 use Rattle.mf_text.specs.Characters.{is_space, is_name_start}
 use Rattle.mf_text.specs.Languages.{Language, Word, ◌⋅◌, Maybe, Each, Begins}
-use Rattle.mf_text.specs.Lexical.{O, SpellsLiteral}
-use Rattle.mf_lex.specs.Reading.{is_next, one_at, after_space, has_space, literal_at}
+use Rattle.mf_text.specs.Grammar.{O, SpellsLiteral}
+use Rattle.mf_lex.specs.Computed.{is_next, one_at, after_space, has_space, literal_at}
 use Rattle.mf_lex.proofs.Begins.{parted}
 use Rattle.mf_lex.proofs.Escapes.{one_next}
 use Rattle.mf_lex.proofs.Literals.{literal_complete}
 use Rattle.mf_lex.proofs.Members.{colon_is_no_name_char, slash_is_no_name_char, right_brace_is_no_name_char, dollar_is_no_name_char, at_is_no_name_char, hash_is_no_name_char}
-use Rattle.mf_tree.specs.Spells.{SpellsIdentifierNode, SpellsVariable, SpellsSpacedOption, SpellsAttribute, SpellsSpacedAttribute, SpellsFunction, SpellsSpacedFunction, SpellsVariableExpression, SpellsExpressionOf, SpellsExpression, SpellsMarkupOf, SpellsPlaceholder}
+use Rattle.mf_tree.specs.Grammar.{SpellsIdentifierNode, SpellsVariable, SpellsSpacedOption, SpellsAttribute, SpellsSpacedAttribute, SpellsFunction, SpellsSpacedFunction, SpellsVariableExpression, SpellsExpressionOf, SpellsExpression, SpellsMarkupOf, SpellsPlaceholder}
 use Rattle.mf_tree.specs.declared.name.Name.{Name}
 use Rattle.mf_tree.specs.declared.name.Identifier.{Identifier}
 use Rattle.mf_tree.specs.declared.expression.Operand.{Operand}
@@ -25,7 +25,7 @@ use Rattle.mf_tree.specs.declared.pattern.Piece.{Piece}
 use Rattle.mf_tree.specs.declared.expression.Operand.TheVariants as Operands
 use Rattle.mf_tree.specs.declared.pattern.Form.TheVariants as Forms
 use Rattle.mf_tree.specs.declared.pattern.Piece.TheVariants as Pieces
-use Rattle.mf_parse.specs.Syntax.{made, followed, behind, placed, onto, is_at, is_spaced, identifier_node_at, variable_at, options_at, attribute_at, spaced_attribute_at, attributes_at, call_node, function_at, spaced_function_at, behind_brace, last_attributes_at, expression_node, rest_of_expression_at, of_variable_at, of_literal_at, of_function_at, inner_expression_at, inside, expression_at, form_at, markup_node, opening_at, closing_at, inner_placeholder_at, placeholder_at}
+use Rattle.mf_parse.specs.Computed.{made, followed, behind, placed, onto, is_at, is_spaced, identifier_node_at, variable_at, options_at, attribute_at, spaced_attribute_at, attributes_at, call_node, function_at, spaced_function_at, behind_brace, last_attributes_at, expression_node, rest_of_expression_at, of_variable_at, of_literal_at, of_function_at, inner_expression_at, inside, expression_at, form_at, markup_node, opening_at, closing_at, inner_placeholder_at, placeholder_at}
 use Rattle.mf_parse.proofs.Finding.{followed_by, behind_by, made_by, placed_by, many_stop, many_some, Shortens}
 use Rattle.mf_parse.proofs.Heads.{spaced}
 use Rattle.mf_parse.proofs.Places.{IsPast, past_space, past_some, past_spaced, Reaches, Stops, stops_before, stops_spaced, at_itself, word_first, word_only, space_first, some_space_first, sign_first, sign_only, some_space_is_longer, shorter}

@@ -3,7 +3,7 @@ use Rattle.std.proofs.Common.{◌≡◌, ◌<◌, ◌≤◌, ℕ, zero, suc, Boo
 use Rattle.std.proofs.lemmas.Bool.{cases_Bool, cond-true, cond-false, false≢true}
 use Rattle.mf_text.specs.Languages.{Language, Each, Begins}
 use Rattle.mf_lex.proofs.Begins.{joined}
-use Rattle.mf_parse.specs.Syntax.{Found, made, followed, behind, placed, onto, many_within, many}
+use Rattle.mf_parse.specs.Computed.{Found, made, followed, behind, placed, onto, many_within, many}
 
 pub followed_parts : {X Y : Type 0} (found : Found X) (next : X → List ℕ → Found Y) (y : Y × List ℕ) → followed found next ≡ Some y →
     (x : X × List ℕ) × (found ≡ Some x) × (next x.0 x.1 ≡ Some y)

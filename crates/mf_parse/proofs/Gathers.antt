@@ -2,13 +2,13 @@
 use Rattle.std.proofs.Common.{◌≡◌, ◌<◌, ℕ, Bool, true, false, ◌==◌, Some, None, List, [], ◌∷◌, ◌++◌, refl, ap, sym, ◌∙◌, append_assoc, length}
 use Rattle.std.proofs.lemmas.List.{append-nil}
 use Rattle.mf_text.specs.Characters.{is_name_start}
-use Rattle.mf_lex.specs.Reading.{after_space, has_space}
+use Rattle.mf_lex.specs.Computed.{after_space, has_space}
 use Rattle.mf_tree.specs.declared.expression.OptionNode.{OptionNode}
 use Rattle.mf_tree.specs.declared.expression.Attribute.{Attribute}
 use Rattle.mf_tree.specs.declared.name.Name.{Name}
 use Rattle.mf_tree.specs.declared.message.Key.{Key}
 use Rattle.mf_tree.specs.declared.message.Variant.{Variant}
-use Rattle.mf_parse.specs.Syntax.{Found, made, onto, many, is_spaced, option_at, spaced_option_at, options_at, attribute_at, spaced_attribute_at, attributes_at, variable_at, spaced_variable_at, selectors_at, key_at, begins_key, spaced_key_at, further_keys_at, variant_at, begins_variant, spaced_variant_at, further_variants_at}
+use Rattle.mf_parse.specs.Computed.{Found, made, onto, many, is_spaced, option_at, options_at, attribute_at, attributes_at, variable_at, selectors_at, key_at, begins_key, further_keys_at, variant_at, begins_variant, further_variants_at}
 use Rattle.mf_parse.proofs.Complete.{options_shorten}
 use Rattle.mf_parse.proofs.CompletePlaceholders.{attributes_shorten}
 use Rattle.mf_parse.proofs.CompleteMessages.{selectors_shorten, keys_shorten, variants_shorten}
@@ -38,77 +38,63 @@ gathered_stop begins at all xs cs left gathered stop same =
 pub gathered_none : {X : Type 0} (begins : List ℕ → Bool) (at : List ℕ → Found X) → begins [] ≡ false → (all : Found (List X)) (xs : List X) (cs : List ℕ) → Gathered all xs (many begins at cs) → begins cs ≡ true → at cs ≡ None → all ≡ None
 gathered_none begins at empty all xs cs gathered some none = gathered ∙ made_none (λ more. xs ++ more) (many begins at cs) (many_none begins at empty cs some none)
 
-pub option_step : (all : Found (List OptionNode)) (x : OptionNode) (xs more : List OptionNode) (cs place left : List ℕ) → Gathered all xs (options_at cs) → (is_spaced is_name_start) cs ≡ true → place ≡ after_space cs → option_at place ≡ Some (x, left) → more ≡ xs ++ x ∷ [] → Gathered all more (options_at left)
-unfolding options_at has_space
-option_step all x xs more cs place left gathered some at finds is = gathered_step (is_spaced is_name_start) spaced_option_at refl options_shorten all x xs more cs left gathered some (ap option_at (sym at) ∙ finds) is
+-- a list whose members stand behind white space
+pub record Spaced {X : Type 0} (begins : List ℕ → Bool) (at : List ℕ → Found X) (all_at : List ℕ → Found (List X)) : Type 0 where
+  pub empty : begins [] ≡ false
+  pub shortens : Shortens begins (λ cs. at (after_space cs))
+  pub each : (cs : List ℕ) → all_at cs ≡ many begins (λ cs. at (after_space cs)) cs
 
-pub option_stop : (all : Found (List OptionNode)) (xs : List OptionNode) (cs left : List ℕ) → Gathered all xs (options_at cs) → (is_spaced is_name_start) cs ≡ false → left ≡ cs → all ≡ Some (xs, left)
-unfolding options_at
-option_stop all xs cs left gathered stop same = gathered_stop (is_spaced is_name_start) spaced_option_at all xs cs left gathered stop same
+module _ {X : Type 0} (begins : List ℕ → Bool) (at : List ℕ → Found X) (all_at : List ℕ → Found (List X)) (spaced : Spaced begins at all_at) where
+  -- one that is found is gathered
+  pub spaced_step : (all : Found (List X)) (x : X) (xs more : List X) (cs place left : List ℕ) → Gathered all xs (all_at cs) → begins cs ≡ true → place ≡ after_space cs → at place ≡ Some (x, left) → more ≡ xs ++ x ∷ []
+      → Gathered all more (all_at left)
+  spaced_step all x xs more cs place left gathered some there finds is =
+      gathered_step begins (λ cs. at (after_space cs)) spaced.empty spaced.shortens all x xs more cs left (gathered ∙ ap (made (λ more. xs ++ more)) (spaced.each cs)) some (ap at (sym there) ∙ finds) is
+      ∙ ap (made (λ rest. more ++ rest)) (sym (spaced.each left))
+
+  -- where none begins, all are gathered
+  pub spaced_stop : (all : Found (List X)) (xs : List X) (cs left : List ℕ) → Gathered all xs (all_at cs) → begins cs ≡ false → left ≡ cs → all ≡ Some (xs, left)
+  spaced_stop all xs cs left gathered stop same = gathered_stop begins (λ cs. at (after_space cs)) all xs cs left (gathered ∙ ap (made (λ more. xs ++ more)) (spaced.each cs)) stop same
+
+  -- where one begins and isn't found, nothing is
+  spaced_none : (all : Found (List X)) (xs : List X) (cs place : List ℕ) → Gathered all xs (all_at cs) → begins cs ≡ true → place ≡ after_space cs → at place ≡ None → all ≡ None
+  spaced_none all xs cs place gathered some there none =
+      gathered_none begins (λ cs. at (after_space cs)) spaced.empty all xs cs (gathered ∙ ap (made (λ more. xs ++ more)) (spaced.each cs)) some (ap at (sym there) ∙ none)
+
+  pub spaced_shorter : (x : X) (cs place left : List ℕ) → begins cs ≡ true → place ≡ after_space cs → at place ≡ Some (x, left) → length left < length cs
+  spaced_shorter x cs place left some there finds = spaced.shortens cs x left some (ap at (sym there) ∙ finds)
+
+pub options_spaced : Spaced (is_spaced is_name_start) option_at options_at
+unfolding options_at has_space
+options_spaced = record { empty = refl; shortens = options_shorten; each = λ cs. refl }
 
 pub option_none : (all : Found (List OptionNode)) (xs : List OptionNode) (cs place : List ℕ) → Gathered all xs (options_at cs) → (is_spaced is_name_start) cs ≡ true → place ≡ after_space cs → option_at place ≡ None → all ≡ None
-unfolding options_at has_space
-option_none all xs cs place gathered some at none = gathered_none (is_spaced is_name_start) spaced_option_at refl all xs cs gathered some (ap option_at (sym at) ∙ none)
+option_none = spaced_none (is_spaced is_name_start) option_at options_at options_spaced
 
-pub option_shorter : (x : OptionNode) (cs place left : List ℕ) → (is_spaced is_name_start) cs ≡ true → place ≡ after_space cs → option_at place ≡ Some (x, left) → length left < length cs
-option_shorter x cs place left some at finds = options_shorten cs x left some (ap option_at (sym at) ∙ finds)
-
-pub attribute_step : (all : Found (List Attribute)) (x : Attribute) (xs more : List Attribute) (cs place left : List ℕ) → Gathered all xs (attributes_at cs) → (is_spaced (λ c. c == 0x40)) cs ≡ true → place ≡ after_space cs → attribute_at place ≡ Some (x, left) → more ≡ xs ++ x ∷ [] → Gathered all more (attributes_at left)
+pub attributes_spaced : Spaced (is_spaced (λ c. c == 0x40)) attribute_at attributes_at
 unfolding attributes_at has_space
-attribute_step all x xs more cs place left gathered some at finds is = gathered_step (is_spaced (λ c. c == 0x40)) spaced_attribute_at refl attributes_shorten all x xs more cs left gathered some (ap attribute_at (sym at) ∙ finds) is
-
-pub attribute_stop : (all : Found (List Attribute)) (xs : List Attribute) (cs left : List ℕ) → Gathered all xs (attributes_at cs) → (is_spaced (λ c. c == 0x40)) cs ≡ false → left ≡ cs → all ≡ Some (xs, left)
-unfolding attributes_at
-attribute_stop all xs cs left gathered stop same = gathered_stop (is_spaced (λ c. c == 0x40)) spaced_attribute_at all xs cs left gathered stop same
+attributes_spaced = record { empty = refl; shortens = attributes_shorten; each = λ cs. refl }
 
 pub attribute_none : (all : Found (List Attribute)) (xs : List Attribute) (cs place : List ℕ) → Gathered all xs (attributes_at cs) → (is_spaced (λ c. c == 0x40)) cs ≡ true → place ≡ after_space cs → attribute_at place ≡ None → all ≡ None
-unfolding attributes_at has_space
-attribute_none all xs cs place gathered some at none = gathered_none (is_spaced (λ c. c == 0x40)) spaced_attribute_at refl all xs cs gathered some (ap attribute_at (sym at) ∙ none)
+attribute_none = spaced_none (is_spaced (λ c. c == 0x40)) attribute_at attributes_at attributes_spaced
 
-pub attribute_shorter : (x : Attribute) (cs place left : List ℕ) → (is_spaced (λ c. c == 0x40)) cs ≡ true → place ≡ after_space cs → attribute_at place ≡ Some (x, left) → length left < length cs
-attribute_shorter x cs place left some at finds = attributes_shorten cs x left some (ap attribute_at (sym at) ∙ finds)
-
-pub selector_step : (all : Found (List Name)) (x : Name) (xs more : List Name) (cs place left : List ℕ) → Gathered all xs (selectors_at cs) → (is_spaced (λ c. c == 0x24)) cs ≡ true → place ≡ after_space cs → variable_at place ≡ Some (x, left) → more ≡ xs ++ x ∷ [] → Gathered all more (selectors_at left)
+pub selectors_spaced : Spaced (is_spaced (λ c. c == 0x24)) variable_at selectors_at
 unfolding selectors_at has_space
-selector_step all x xs more cs place left gathered some at finds is = gathered_step (is_spaced (λ c. c == 0x24)) spaced_variable_at refl selectors_shorten all x xs more cs left gathered some (ap variable_at (sym at) ∙ finds) is
-
-pub selector_stop : (all : Found (List Name)) (xs : List Name) (cs left : List ℕ) → Gathered all xs (selectors_at cs) → (is_spaced (λ c. c == 0x24)) cs ≡ false → left ≡ cs → all ≡ Some (xs, left)
-unfolding selectors_at
-selector_stop all xs cs left gathered stop same = gathered_stop (is_spaced (λ c. c == 0x24)) spaced_variable_at all xs cs left gathered stop same
+selectors_spaced = record { empty = refl; shortens = selectors_shorten; each = λ cs. refl }
 
 pub selector_none : (all : Found (List Name)) (xs : List Name) (cs place : List ℕ) → Gathered all xs (selectors_at cs) → (is_spaced (λ c. c == 0x24)) cs ≡ true → place ≡ after_space cs → variable_at place ≡ None → all ≡ None
-unfolding selectors_at has_space
-selector_none all xs cs place gathered some at none = gathered_none (is_spaced (λ c. c == 0x24)) spaced_variable_at refl all xs cs gathered some (ap variable_at (sym at) ∙ none)
+selector_none = spaced_none (is_spaced (λ c. c == 0x24)) variable_at selectors_at selectors_spaced
 
-pub selector_shorter : (x : Name) (cs place left : List ℕ) → (is_spaced (λ c. c == 0x24)) cs ≡ true → place ≡ after_space cs → variable_at place ≡ Some (x, left) → length left < length cs
-selector_shorter x cs place left some at finds = selectors_shorten cs x left some (ap variable_at (sym at) ∙ finds)
-
-pub key_step : (all : Found (List Key)) (x : Key) (xs more : List Key) (cs place left : List ℕ) → Gathered all xs (further_keys_at cs) → begins_key cs ≡ true → place ≡ after_space cs → key_at place ≡ Some (x, left) → more ≡ xs ++ x ∷ [] → Gathered all more (further_keys_at left)
+pub keys_spaced : Spaced begins_key key_at further_keys_at
 unfolding further_keys_at has_space
-key_step all x xs more cs place left gathered some at finds is = gathered_step begins_key spaced_key_at refl keys_shorten all x xs more cs left gathered some (ap key_at (sym at) ∙ finds) is
-
-pub key_stop : (all : Found (List Key)) (xs : List Key) (cs left : List ℕ) → Gathered all xs (further_keys_at cs) → begins_key cs ≡ false → left ≡ cs → all ≡ Some (xs, left)
-unfolding further_keys_at
-key_stop all xs cs left gathered stop same = gathered_stop begins_key spaced_key_at all xs cs left gathered stop same
+keys_spaced = record { empty = refl; shortens = keys_shorten; each = λ cs. refl }
 
 pub key_none : (all : Found (List Key)) (xs : List Key) (cs place : List ℕ) → Gathered all xs (further_keys_at cs) → begins_key cs ≡ true → place ≡ after_space cs → key_at place ≡ None → all ≡ None
-unfolding further_keys_at has_space
-key_none all xs cs place gathered some at none = gathered_none begins_key spaced_key_at refl all xs cs gathered some (ap key_at (sym at) ∙ none)
+key_none = spaced_none begins_key key_at further_keys_at keys_spaced
 
-pub key_shorter : (x : Key) (cs place left : List ℕ) → begins_key cs ≡ true → place ≡ after_space cs → key_at place ≡ Some (x, left) → length left < length cs
-key_shorter x cs place left some at finds = keys_shorten cs x left some (ap key_at (sym at) ∙ finds)
-
-pub variant_step : (all : Found (List Variant)) (x : Variant) (xs more : List Variant) (cs place left : List ℕ) → Gathered all xs (further_variants_at cs) → begins_variant cs ≡ true → place ≡ after_space cs → variant_at place ≡ Some (x, left) → more ≡ xs ++ x ∷ [] → Gathered all more (further_variants_at left)
+pub variants_spaced : Spaced begins_variant variant_at further_variants_at
 unfolding further_variants_at after_space
-variant_step all x xs more cs place left gathered some at finds is = gathered_step begins_variant spaced_variant_at refl variants_shorten all x xs more cs left gathered some (ap variant_at (sym at) ∙ finds) is
-
-pub variant_stop : (all : Found (List Variant)) (xs : List Variant) (cs left : List ℕ) → Gathered all xs (further_variants_at cs) → begins_variant cs ≡ false → left ≡ cs → all ≡ Some (xs, left)
-unfolding further_variants_at
-variant_stop all xs cs left gathered stop same = gathered_stop begins_variant spaced_variant_at all xs cs left gathered stop same
+variants_spaced = record { empty = refl; shortens = variants_shorten; each = λ cs. refl }
 
 pub variant_none : (all : Found (List Variant)) (xs : List Variant) (cs place : List ℕ) → Gathered all xs (further_variants_at cs) → begins_variant cs ≡ true → place ≡ after_space cs → variant_at place ≡ None → all ≡ None
-unfolding further_variants_at after_space
-variant_none all xs cs place gathered some at none = gathered_none begins_variant spaced_variant_at refl all xs cs gathered some (ap variant_at (sym at) ∙ none)
-
-pub variant_shorter : (x : Variant) (cs place left : List ℕ) → begins_variant cs ≡ true → place ≡ after_space cs → variant_at place ≡ Some (x, left) → length left < length cs
-variant_shorter x cs place left some at finds = variants_shorten cs x left some (ap variant_at (sym at) ∙ finds)
+variant_none = spaced_none begins_variant variant_at further_variants_at variants_spaced

@@ -4,13 +4,13 @@ use Rattle.std.proofs.lemmas.Bool.{and_parts}
 use Rattle.std.specs.Option.{option_and_then}
 use Rattle.std.specs.Prelude.{codes}
 use Rattle.mf_text.specs.Languages.{Language, Word, ◌⋅◌, Begins}
-use Rattle.mf_text.specs.Lexical.{O, S}
-use Rattle.mf_lex.specs.Reading.{one_at, after_space, has_space}
+use Rattle.mf_text.specs.Grammar.{O, S}
+use Rattle.mf_lex.specs.Computed.{one_at, after_space, has_space}
 use Rattle.mf_lex.proofs.Begins.{joined}
 use Rattle.mf_lex.proofs.Gathering.{one_parts}
 use Rattle.mf_lex.proofs.Names.{mapped_parts}
 use Rattle.mf_lex.proofs.Spaces.{o_found, s_found}
-use Rattle.mf_parse.specs.Syntax.{word_at, is_spaced, behind_equals, behind_brace, inside}
+use Rattle.mf_parse.specs.Computed.{word_at, is_spaced, behind_equals, behind_brace, inside}
 
 -- a text that begins with a character begins so
 pub with_character : (c : ℕ) (Rule : Language) (cs middle left : List ℕ) → one_at c cs ≡ Some middle → Begins Rule middle left → Begins (Word (c ∷ []) ⋅ Rule) cs left

@@ -3,17 +3,17 @@ use Rattle.std.proofs.Common.{◌≡◌, ℕ, Bool, true, false, ◌==◌, ◌||
 use Rattle.std.proofs.lemmas.Bool.{cases_Bool, cond-true, and_parts, or_left, eqb-true, false≢true}
 use Rattle.mf_text.specs.Characters.{Table, is_in, is_ws, is_bidi, is_space, is_text, is_simple_start, never_plain, ws, bidi}
 use Rattle.mf_text.specs.Languages.{Begins}
-use Rattle.mf_text.specs.Lexical.{O}
+use Rattle.mf_text.specs.Grammar.{O}
 use Rattle.mf_text.proofs.Classes.{apart, are_apart}
 use Rattle.mf_lex.proofs.Begins.{begins_whole}
 use Rattle.mf_lex.proofs.Runs.{behind_more, behind_ends}
-use Rattle.mf_tree.specs.Spells.{Item, character, placeholder, pattern_of, SpellsItem, SpellsItems, SpellsSimpleStart, SpellsFromStart, SpellsSimpleMessage, SpellsSimpleBody, SpellsMessage}
+use Rattle.mf_tree.specs.Grammar.{Item, character, placeholder, pattern_of, SpellsItem, SpellsItems, SpellsSimpleStart, SpellsFromStart, SpellsSimpleMessage, SpellsSimpleBody, SpellsMessage}
 use Rattle.mf_tree.specs.declared.pattern.Piece.{Piece}
 use Rattle.mf_tree.specs.declared.message.Declaration.{Declaration}
 use Rattle.mf_tree.specs.declared.message.Body.{Body}
 use Rattle.mf_tree.specs.declared.message.Message.{Message}
 use Rattle.mf_tree.specs.declared.message.Body.TheVariants as Bodies
-use Rattle.mf_parse.specs.Syntax.{is_at, pattern_at, message_node, whole, complex_at, begins_simply, simple_at, or_else, message_of}
+use Rattle.mf_parse.specs.Computed.{is_at, pattern_at, message_node, whole, complex_at, begins_simply, simple_at, or_else, message_of}
 use Rattle.mf_parse.proofs.Finding.{made_by}
 use Rattle.mf_parse.proofs.SoundMessages.{complex_sound}
 use Rattle.mf_parse.proofs.CompleteMessages.{placeholder_here, pattern_complete, complex_complete}

@@ -4,14 +4,13 @@ use Rattle.std.proofs.lemmas.Bool.{cases_Bool, cond-true, cond-false, eqb-true, 
 use Rattle.std.proofs.lemmas.List.{length-append}
 use Rattle.mf_text.specs.Characters.{is_ws, is_bidi, is_space, is_name_char}
 use Rattle.mf_text.specs.Languages.{Language, Word, ◌⋅◌, Begins}
-use Rattle.mf_text.specs.Lexical.{O, S}
-use Rattle.mf_text.proofs.Classes.{space_is_no_name_char}
-use Rattle.mf_lex.specs.Reading.{is_next, one_at, after_space, has_space, after_mark}
+use Rattle.mf_text.specs.Grammar.{O, S}
+use Rattle.mf_text.proofs.Classes.{space_is_no_name_char, mark_is_space, ws_is_space}
+use Rattle.mf_lex.specs.Computed.{is_next, one_at, after_space, has_space, after_mark}
 use Rattle.mf_lex.proofs.Begins.{parted}
-use Rattle.mf_lex.proofs.Members.{mark_is_space, ws_is_space}
 use Rattle.mf_lex.proofs.Runs.{behind_more, behind_ends}
 use Rattle.mf_lex.proofs.Spaces.{o_passes, s_passes}
-use Rattle.mf_parse.specs.Syntax.{Found, is_spaced}
+use Rattle.mf_parse.specs.Computed.{Found, is_spaced}
 
 -- the place, or the one behind the mark that is next
 abbrev pub IsPast : List ℕ → List ℕ → Type 0
@@ -195,9 +194,6 @@ some_space_is_longer Rule text spelled =
       length-append space.front space.back,
       length-append space.second.front space.second.back,
     )
-
-pub word_is_longer : (c : ℕ) (word : List ℕ) (Rule : Language) (text : List ℕ) → (Word (c ∷ word) ⋅ Rule) text → 0 < length text
-word_is_longer c word Rule text spelled = omega (arith, ap length spelled.whole, ap length spelled.first, length-append spelled.front spelled.back)
 
 pub shorter : (Rule : Language) (cs left : List ℕ) → ((text : List ℕ) → Rule text → 0 < length text) → Begins Rule cs left → length left < length cs
 shorter Rule cs left longer begins =

@@ -5,14 +5,14 @@ use Rattle.std.specs.Option.{option_map, option_and_then}
 use Rattle.std.specs.Prelude.{codes, if◌then◌else◌}
 use Rattle.mf_text.specs.Characters.{is_name_start}
 use Rattle.mf_text.specs.Languages.{Language, Word, ◌⋅◌, Maybe, Each, Begins}
-use Rattle.mf_text.specs.Lexical.{O, SpellsName, SpellsIdentifier, SpellsLiteral}
-use Rattle.mf_lex.specs.Reading.{one_at, after_space, name_at, identifier_at, literal_at}
+use Rattle.mf_text.specs.Grammar.{O, SpellsName, SpellsIdentifier, SpellsLiteral}
+use Rattle.mf_lex.specs.Computed.{one_at, after_space, name_at, identifier_at, literal_at}
 use Rattle.mf_lex.proofs.Begins.{joined}
 use Rattle.mf_lex.proofs.Identifiers.{identifier_begins}
 use Rattle.mf_lex.proofs.Literals.{literal_begins}
 use Rattle.mf_lex.proofs.Names.{name_begins}
 use Rattle.mf_tree.specs.Names.{named}
-use Rattle.mf_tree.specs.Spells.{SpellsIdentifierNode, SpellsVariable, SpellsOptionValue, SpellsOption, SpellsSpacedOption, SpellsAttributeValue, SpellsAttribute, SpellsSpacedAttribute, SpellsFunction, SpellsSpacedFunction, SpellsExpression, SpellsMarkup, SpellsPlaceholder}
+use Rattle.mf_tree.specs.Grammar.{SpellsIdentifierNode, SpellsVariable, SpellsOptionValue, SpellsOption, SpellsSpacedOption, SpellsAttributeValue, SpellsAttribute, SpellsSpacedAttribute, SpellsFunction, SpellsSpacedFunction, SpellsExpression, SpellsMarkup, SpellsPlaceholder}
 use Rattle.mf_tree.specs.declared.name.Name.{Name}
 use Rattle.mf_tree.specs.declared.name.Identifier.{Identifier}
 use Rattle.mf_tree.specs.declared.expression.Operand.{Operand}
@@ -28,7 +28,7 @@ use Rattle.mf_tree.specs.declared.expression.Operand.TheVariants as Operands
 use Rattle.mf_tree.specs.declared.expression.OptionValue.TheVariants as OptionValues
 use Rattle.mf_tree.specs.declared.pattern.Form.TheVariants as Forms
 use Rattle.mf_tree.specs.declared.pattern.Piece.TheVariants as Pieces
-use Rattle.mf_parse.specs.Syntax.{Found, made, followed, behind, placed, is_at, is_spaced, identifier_of, identifier_node_at, variable_at, option_value_at, behind_equals, option_node, option_at, spaced_option_at, options_at, attribute_value_at, attribute_node, attribute_at, spaced_attribute_at, attributes_at, call_node, function_at, spaced_function_at, behind_brace, last_attributes_at, expression_node, rest_of_expression_at, of_variable_at, of_literal_at, of_function_at, inner_expression_at, inside, expression_at, form_at, markup_node, opening_at, closing_at, inner_placeholder_at, placeholder_at}
+use Rattle.mf_parse.specs.Computed.{Found, made, followed, behind, placed, is_at, is_spaced, identifier_of, identifier_node_at, variable_at, option_value_at, behind_equals, option_node, option_at, spaced_option_at, options_at, attribute_value_at, attribute_node, attribute_at, spaced_attribute_at, attributes_at, call_node, function_at, spaced_function_at, behind_brace, last_attributes_at, expression_node, rest_of_expression_at, of_variable_at, of_literal_at, of_function_at, inner_expression_at, inside, expression_at, form_at, markup_node, opening_at, closing_at, inner_placeholder_at, placeholder_at}
 use Rattle.mf_parse.proofs.Finding.{followed_parts, behind_parts, made_parts, placed_parts, many_begins}
 use Rattle.mf_parse.proofs.Heads.{with_character, with_space, spaced, with_equals, with_brace, last_brace, character_alone}
 

@@ -1,16 +1,17 @@
 -- What is found is spelled: of patterns, declarations, matchers and messages.
 use Rattle.std.proofs.Common.{◌≡◌, ℕ, Bool, true, false, ◌==◌, ◌&&◌, ◌||◌, not, Option, Some, None, List, [], ◌∷◌, ◌++◌, map, refl, ap, sym, ◌∙◌, subst, inl, inr, arith}
-use Rattle.std.proofs.lemmas.Bool.{cases_Bool, or_left, cond-true, cond-false, and_parts, and_from, eqb-true, eqb-false, leb-true, false≢true}
+use Rattle.std.proofs.lemmas.Bool.{cases_Bool, cond-true, cond-false, and_parts, and_from, eqb-true, eqb-false, leb-true, false≢true}
 use Rattle.std.proofs.lemmas.List.{append-nil}
 use Rattle.std.specs.Prelude.{codes, nat_le, if◌then◌else◌}
 use Rattle.mf_text.specs.Characters.{is_in, is_ws, is_bidi, is_space, is_text, is_simple_start, is_escapable}
 use Rattle.mf_text.specs.Languages.{Language, Word, ◌⋅◌, Maybe, Each, Begins}
-use Rattle.mf_text.specs.Lexical.{O, S}
-use Rattle.mf_lex.specs.Reading.{one_at, after_space, has_space, escaped, literal_at}
+use Rattle.mf_text.specs.Grammar.{O, S}
+use Rattle.mf_text.proofs.Classes.{ws_is_space}
+use Rattle.mf_lex.specs.Computed.{one_at, after_space, has_space, escaped, literal_at}
 use Rattle.mf_lex.proofs.Begins.{joined}
 use Rattle.mf_lex.proofs.Literals.{literal_begins}
-use Rattle.mf_tree.specs.Spells
-use Rattle.mf_tree.specs.Spells.{Item, character, placeholder, pattern_of, SpellsItem, SpellsItems, SpellsSimpleStart, SpellsFromStart, SpellsSpace, SpellsSimpleMessage, SpellsQuotedPattern, SpellsVariable, SpellsVariableExpression, SpellsExpression, SpellsDeclaration, SpellsDeclarationAndSpace, SpellsKey, SpellsSpacedKey, SpellsKeys, SpellsVariant, SpellsFurtherVariant, SpellsVariants, SpellsSelector, SpellsMatcher, SpellsComplexBody, SpellsComplexMessage, SpellsMessage, EachOfSome}
+use Rattle.mf_tree.specs.Grammar
+use Rattle.mf_tree.specs.Grammar.{Item, character, placeholder, pattern_of, SpellsItem, SpellsItems, SpellsSimpleStart, SpellsFromStart, SpellsSpace, SpellsSimpleMessage, SpellsQuotedPattern, SpellsVariable, SpellsVariableExpression, SpellsExpression, SpellsDeclaration, SpellsDeclarationAndSpace, SpellsKey, SpellsSpacedKey, SpellsKeys, SpellsVariant, SpellsFurtherVariant, SpellsVariants, SpellsSelector, SpellsMatcher, SpellsComplexBody, SpellsComplexMessage, SpellsMessage, EachOfSome}
 use Rattle.mf_tree.specs.declared.name.Name.{Name}
 use Rattle.mf_tree.specs.declared.pattern.Piece.{Piece}
 use Rattle.mf_tree.specs.declared.message.Key.{Key}
@@ -21,7 +22,7 @@ use Rattle.mf_tree.specs.declared.message.Message.{Message}
 use Rattle.mf_tree.specs.declared.expression.Operand.TheVariants as Operands
 use Rattle.mf_tree.specs.declared.message.Key.TheVariants as Keys
 use Rattle.mf_tree.specs.declared.message.Body.TheVariants as Bodies
-use Rattle.mf_parse.specs.Syntax.{Found, made, followed, behind, placed, onto, many, word_at, is_word_at, is_at, is_spaced, variable_at, rest_of_expression_at, behind_equals, inside, expression_at, placeholder_at, item_at, goes_on, pattern_at, quoted_pattern_at, input_node, input_at, local_node, local_rest, local_at, begins_declaration, declaration_at, spaced_declaration_at, declarations_at, key_at, begins_key, spaced_key_at, further_keys_at, keys_at, variant_node, variant_at, begins_variant, spaced_variant_at, further_variants_at, variants_at, spaced_variable_at, selectors_at, match_node, match_at, matcher_at, body_at, message_node, whole, complex_at, begins_simply, simple_at, or_else, message_of}
+use Rattle.mf_parse.specs.Computed.{Found, made, followed, behind, placed, onto, many, word_at, is_word_at, is_at, is_spaced, variable_at, rest_of_expression_at, behind_equals, inside, expression_at, placeholder_at, item_at, goes_on, pattern_at, quoted_pattern_at, input_node, input_at, local_node, local_rest, local_at, begins_declaration, declaration_at, spaced_declaration_at, declarations_at, key_at, begins_key, spaced_key_at, further_keys_at, keys_at, variant_node, variant_at, begins_variant, spaced_variant_at, further_variants_at, variants_at, spaced_variable_at, selectors_at, match_node, match_at, matcher_at, body_at, message_node, whole, complex_at, begins_simply, simple_at, or_else, message_of}
 use Rattle.mf_parse.proofs.Finding.{followed_parts, behind_parts, made_parts, placed_parts, many_begins}
 use Rattle.mf_parse.proofs.Heads.{with_space, with_some_space, spaced, space_alone, with_equals, with_brace, character_alone, with_word, word_alone}
 use Rattle.mf_parse.proofs.Sound.{chosen, variable_sound, rest_sound, expression_sound, placeholder_sound}
@@ -100,8 +101,8 @@ input_sound cs node left before word finds =
     let begins =
     with_word (codes ".input") (O ⋅ SpellsVariableExpression name.0.0 rest.function rest.attributes) before cs left word
     (with_space (SpellsVariableExpression name.0.0 rest.function rest.attributes) cs left
-    (with_brace (SpellsVariable name.0.0 ⋅ Maybe Spells.SpellsSpacedFunction rest.function ⋅ Each Spells.SpellsSpacedAttribute rest.attributes ⋅ O ⋅ Word (codes "}")) (after_space cs) brace.0 left brace.1
-    (joined (SpellsVariable name.0.0) (Maybe Spells.SpellsSpacedFunction rest.function ⋅ Each Spells.SpellsSpacedAttribute rest.attributes ⋅ O ⋅ Word (codes "}")) brace.0 name.0.1 left (variable_sound brace.0 name.0.0 name.0.1 name.1) rest.begins))) in
+    (with_brace (SpellsVariable name.0.0 ⋅ Maybe Grammar.SpellsSpacedFunction rest.function ⋅ Each Grammar.SpellsSpacedAttribute rest.attributes ⋅ O ⋅ Word (codes "}")) (after_space cs) brace.0 left brace.1
+    (joined (SpellsVariable name.0.0) (Maybe Grammar.SpellsSpacedFunction rest.function ⋅ Each Grammar.SpellsSpacedAttribute rest.attributes ⋅ O ⋅ Word (codes "}")) brace.0 name.0.1 left (variable_sound brace.0 name.0.0 name.0.1 name.1) rest.begins))) in
     subst (λ (node : Declaration). Begins (SpellsDeclaration node) before left) (ap (λ expression. input_node name.0.0 expression) rest.is ∙ parts.is)
     (record { taken = begins.taken; whole = begins.whole; is = (refl, begins.is) })
 
@@ -232,9 +233,6 @@ whole_parts (Some (y, c ∷ cs)) x h = absurd (cc)
 pub all_of : (Rule : Language) (cs : List ℕ) → Begins Rule cs [] → Rule cs
 all_of Rule cs begins = subst Rule (sym (begins.whole ∙ append-nil begins.taken)) begins.is
 
-white_is_space : (c : ℕ) → is_ws c ≡ true → is_space c ≡ true
-white_is_space c white = or_left (is_ws c) (is_bidi c) white
-
 both_false : (a b : Bool) → a ≡ false → b ≡ false → (a || b) ≡ false
 both_false a b one other = cc
 
@@ -301,7 +299,7 @@ one_more c items text back is white simple = record {
     front = c ∷ simple.spelled.front;
     back = simple.spelled.back;
     whole = is ∙ ap (λ text. c ∷ text) simple.spelled.whole;
-    first = (ap (λ text. c ∷ text) simple.spelled.first.0, (white_is_space c white, simple.spelled.first.1));
+    first = (ap (λ text. c ∷ text) simple.spelled.first.0, (ws_is_space c white, simple.spelled.first.1));
     second = simple.spelled.second;
   };
 }

@@ -4,13 +4,13 @@ use Rattle.std.proofs.lemmas.Bool.{cases_Bool, cond-true, cond-false, eqb-true, 
 use Rattle.std.specs.Option.{option_map, option_and_then}
 use Rattle.std.proofs.lemmas.List.{append-nil}
 use Rattle.mf_text.specs.Characters.{is_text, is_escapable}
-use Rattle.mf_lex.specs.Reading.{is_next, run, behind_run, one_at, after_space, escaped, escape_at}
+use Rattle.mf_lex.specs.Computed.{is_next, run, behind_run, one_at, after_space, escaped, escape_at}
 use Rattle.mf_lex.proofs.Gathering.{Escape, escape_parts}
 use Rattle.mf_lex.proofs.Runs.{run_more, run_ends, behind_more, behind_ends}
-use Rattle.mf_tree.specs.Spells.{character, placeholder, onto_text, pattern_of, SpellsPlaceholder}
+use Rattle.mf_tree.specs.Grammar.{character, placeholder, onto_text, pattern_of, SpellsPlaceholder}
 use Rattle.mf_tree.specs.declared.pattern.Piece.{Piece}
 use Rattle.mf_tree.specs.declared.pattern.Piece.TheVariants as Pieces
-use Rattle.mf_parse.specs.Syntax.{Found, made, onto, many, is_at, inside, inner_placeholder_at, placeholder_at, item_at, goes_on, text_ends, pattern_at, word_at}
+use Rattle.mf_parse.specs.Computed.{Found, made, onto, many, is_at, inside, inner_placeholder_at, placeholder_at, item_at, goes_on, text_ends, pattern_at, word_at}
 use Rattle.mf_parse.proofs.Finding.{made_by, made_none, behind_none, many_stop, many_some, many_none}
 use Rattle.mf_parse.proofs.Sound.{placeholder_sound}
 use Rattle.mf_parse.proofs.CompleteMessages.{items_shorten}
@@ -151,9 +151,6 @@ passed_some [] start cs passed ends goes = absurd (false≢true (sym goes ∙ ap
 passed_some (c ∷ text) start cs passed ends goes = ((λ empty. cc), omega (arith, passed.longer))
 
 -- a pattern, piece by piece
-pub piece_step : (all : Found (List Piece)) (piece : Piece) (pieces more : List Piece) (cs left : List ℕ) → Gathered all pieces (pattern_at cs) → pattern_at cs ≡ made (onto piece) (pattern_at left) → more ≡ pieces ++ piece ∷ [] → Gathered all more (pattern_at left)
-piece_step all piece pieces more cs left gathered step is = gathered ∙ ap (made (λ more. pieces ++ more)) step ∙ gathered_more piece pieces more (pattern_at left) is
-
 pub piece_stop : (all : Found (List Piece)) (pieces : List Piece) (cs : List ℕ) → Gathered all pieces (pattern_at cs) → goes_on cs ≡ false → all ≡ Some (pieces, cs)
 piece_stop all pieces cs gathered stop = gathered ∙ ap (made (λ more. pieces ++ more)) (pattern_stop cs stop) ∙ ap (λ pieces. Some (pieces, cs)) (append-nil pieces)
 
@@ -233,13 +230,6 @@ no_item (c ∷ rest) plain goes none =
 
 pub passed_wrong : (text start cs : List ℕ) → Passed text start cs → is_next is_text cs ≡ false → text_ends cs ≡ false → escape_at cs ≡ None → pattern_at start ≡ None
 passed_wrong text start cs passed plain goes none = let item = no_item cs plain goes none in passed_none text start cs passed item.0 item.1
-
--- a word, character by character
-pub word_step : (word rest : List ℕ) (c : ℕ) (cs left : List ℕ) → word ≡ c ∷ rest → one_at c cs ≡ Some left → word_at word cs ≡ word_at rest left
-word_step word rest c cs left is finds = ap (λ word. word_at word cs) is ∙ ap (option_and_then (word_at rest)) finds
-
-pub word_stop : (word rest : List ℕ) (c : ℕ) (cs : List ℕ) → word ≡ c ∷ rest → one_at c cs ≡ None → word_at word cs ≡ None
-word_stop word rest c cs is none = ap (λ word. word_at word cs) is ∙ ap (option_and_then (word_at rest)) none
 
 -- what was found, by cases
 pub match_some : {X : Type 0} (found : Option X) (x : X) (Nothing : Type 0) (Some_ : X → Type 0) → found ≡ Some x → MatchOption found Nothing Some_ → Some_ x

@@ -3,7 +3,7 @@ use Rattle.std.proofs.Common.{◌≡◌, ◌≢◌, ℕ, true, false, ◌==◌, 
 use Rattle.std.proofs.lemmas.Bool.{cond-true, cond-false}
 use Rattle.std.specs.Prelude.{codes, slice_get}
 use Rattle.mf_text.specs.Characters.{is_ws}
-use Rattle.mf_lex.specs.Reading.{after_space}
+use Rattle.mf_lex.specs.Computed.{after_space}
 use Rattle.mf_lex.proofs.Runs.{behind_more, behind_ends}
 use Rattle.mf_tree.specs.declared.pattern.Piece.{Piece}
 use Rattle.mf_tree.specs.declared.message.Declaration.{Declaration}
@@ -11,7 +11,7 @@ use Rattle.mf_tree.specs.declared.message.Body.{Body}
 use Rattle.mf_tree.specs.declared.message.Message.{Message}
 use Rattle.mf_tree.specs.declared.message.Body.TheVariants as BodyKinds
 use Rattle.mf_parse.specs.Parsing.{IsSource}
-use Rattle.mf_parse.specs.Syntax.{followed, word_at, is_at, pattern_at, declarations_at, matcher_at, body_at, message_node, whole, complex_at, begins_simply, simple_at, or_else, message_of}
+use Rattle.mf_parse.specs.Computed.{followed, word_at, is_at, pattern_at, declarations_at, matcher_at, body_at, message_node, whole, complex_at, begins_simply, simple_at, or_else, message_of}
 use Rattle.mf_parse.proofs.Finding.{followed_by, followed_none, behind_by, behind_none, made_by, made_none}
 use Rattle.mf_parse.proofs.Messages.{none_spelled}
 

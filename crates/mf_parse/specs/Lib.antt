@@ -1,2 +1,3 @@
+-- Read Parsing, what the parser promises; Computed is for private clauses.
 pub mod Parsing
-pub mod Syntax
+pub mod Computed

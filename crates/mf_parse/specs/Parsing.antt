@@ -1,8 +1,8 @@
 -- What the parser promises.
 use Rattle.std.specs.Prelude.{◌≡◌, ◌↔◌, ℕ, List, Some}
-use Rattle.mf_tree.specs.Spells.{SpellsMessage}
+use Rattle.mf_tree.specs.Grammar.{SpellsMessage}
 use Rattle.mf_tree.specs.declared.message.Message.{Message}
-use Rattle.mf_parse.specs.Syntax.{message_of}
+use Rattle.mf_parse.specs.Computed.{message_of}
 
 -- the text spells some message
 pub record IsSource (text : List ℕ) : Type 0 where

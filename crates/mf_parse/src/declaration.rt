@@ -1,6 +1,6 @@
 //! Declarations, one function a production.
 ghost use Rattle.std.specs.Prelude.{◌≡◌, true, false, Some, None, IfOk, IsErrOf, MatchOption};
-ghost use Rattle.mf_parse.specs.Syntax.{begins_declaration, declaration_at, declarations_at, input_at, local_at, local_rest as rest_of_local};
+ghost use Rattle.mf_parse.specs.Computed.{begins_declaration, declaration_at, declarations_at, input_at, local_at, local_rest as rest_of_local};
 
 use crate::error::ParseError;
 use crate::expression::{expression, rest_of_expression, variable};
@@ -11,7 +11,7 @@ use mf_tree::{Declaration, Declarations, Name, Operand};
 use std::alloc::Global;
 
 /// An input declaration behind its word.
-#[tactic(auto, unfolding(crate::specs::Syntax::input_at))]
+#[tactic(auto, unfolding(crate::specs::Computed::input_at))]
 fn input(alloc: Global, cursor: &mut Cursor) -> Result<Declaration, ParseError>
     ensures found { IfOk result (λ declaration. input_at cursor.old.left ≡ Some (declaration, cursor.new.left)) }
     ensures none { IsErrOf result ParseError.Syntax → input_at cursor.old.left ≡ None }
@@ -27,7 +27,7 @@ fn input(alloc: Global, cursor: &mut Cursor) -> Result<Declaration, ParseError>
 }
 
 /// `variable o "=" o expression`
-#[tactic(auto, unfolding(crate::specs::Syntax::local_rest))]
+#[tactic(auto, unfolding(crate::specs::Computed::local_rest))]
 fn local_rest(alloc: Global, cursor: &mut Cursor) -> Result<Declaration, ParseError>
     ensures found { IfOk result (λ declaration. rest_of_local cursor.old.left ≡ Some (declaration, cursor.new.left)) }
     ensures none { IsErrOf result ParseError.Syntax → rest_of_local cursor.old.left ≡ None }
@@ -41,7 +41,7 @@ fn local_rest(alloc: Global, cursor: &mut Cursor) -> Result<Declaration, ParseEr
 }
 
 /// A local declaration behind its word.
-#[tactic(auto, unfolding(crate::specs::Syntax::local_at))]
+#[tactic(auto, unfolding(crate::specs::Computed::local_at))]
 fn local(alloc: Global, cursor: &mut Cursor) -> Result<Declaration, ParseError>
     ensures found { IfOk result (λ declaration. local_at cursor.old.left ≡ Some (declaration, cursor.new.left)) }
     ensures none { IsErrOf result ParseError.Syntax → local_at cursor.old.left ≡ None }
@@ -54,7 +54,7 @@ fn local(alloc: Global, cursor: &mut Cursor) -> Result<Declaration, ParseError>
 }
 
 /// `declaration`, if one is next.
-#[tactic(auto, unfolding(crate::specs::Syntax::declaration_at))]
+#[tactic(auto, unfolding(crate::specs::Computed::declaration_at))]
 fn declaration(alloc: Global, cursor: &mut Cursor) -> Result<Option<Declaration>, ParseError>
     ensures found { IfOk result (λ found. MatchOption found
         ((begins_declaration cursor.old.left ≡ false) × (cursor.new.left ≡ cursor.old.left))

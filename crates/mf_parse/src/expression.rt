@@ -1,9 +1,9 @@
 //! Expressions and what they are made of, one function a production.
 ghost use Rattle.std.specs.Prelude.{◌≡◌, Some, None, IfOk, IsErrOf};
 ghost use Rattle.std.specs.Option.{option_map};
-ghost use Rattle.mf_lex.specs.Reading.{identifier_at, literal_at, name_at};
+ghost use Rattle.mf_lex.specs.Computed.{identifier_at, literal_at, name_at};
 ghost use Rattle.mf_tree.specs.Names.{named};
-ghost use Rattle.mf_parse.specs.Syntax.{identifier_of as as_identifier, attribute_at, attribute_value_at, attributes_at, expression_at, function_at, identifier_node_at, inner_expression_at, last_attributes_at, of_function_at, of_literal_at, of_variable_at, option_at, option_value_at, options_at, rest_of_expression_at, spaced_function_at, variable_at};
+ghost use Rattle.mf_parse.specs.Computed.{identifier_of as as_identifier, attribute_at, attribute_value_at, attributes_at, expression_at, function_at, identifier_node_at, inner_expression_at, last_attributes_at, of_function_at, of_literal_at, of_variable_at, option_at, option_value_at, options_at, rest_of_expression_at, spaced_function_at, variable_at};
 
 use crate::error::ParseError;
 use crate::spaces::{
@@ -18,7 +18,7 @@ use mf_tree::{
 use std::alloc::{AllocError, Global};
 
 /// `identifier`
-#[tactic(auto, unfolding(crate::specs::Syntax::identifier_node_at))]
+#[tactic(auto, unfolding(crate::specs::Computed::identifier_node_at))]
 pub fn identifier(alloc: Global, cursor: &mut Cursor) -> Result<Identifier, ParseError>
     ensures found { IfOk result (λ identifier. identifier_node_at cursor.old.left ≡ Some (identifier, cursor.new.left)) }
     ensures none { IsErrOf result ParseError.Syntax → identifier_node_at cursor.old.left ≡ None }
@@ -63,7 +63,7 @@ fn namespace_of(alloc: Global, namespace: Option<Text>) -> Result<Option<Name>, 
 }
 
 /// `variable`
-#[tactic(auto, unfolding(crate::specs::Syntax::variable_at))]
+#[tactic(auto, unfolding(crate::specs::Computed::variable_at))]
 pub fn variable(alloc: Global, cursor: &mut Cursor) -> Result<Name, ParseError>
     ensures found { IfOk result (λ name. variable_at cursor.old.left ≡ Some (name, cursor.new.left)) }
     ensures none { IsErrOf result ParseError.Syntax → variable_at cursor.old.left ≡ None }
@@ -96,7 +96,7 @@ pub fn literal(alloc: Global, cursor: &mut Cursor) -> Result<Text, ParseError>
 }
 
 /// `literal / variable`
-#[tactic(auto, unfolding(crate::specs::Syntax::option_value_at))]
+#[tactic(auto, unfolding(crate::specs::Computed::option_value_at))]
 fn option_value(alloc: Global, cursor: &mut Cursor) -> Result<OptionValue, ParseError>
     ensures found { IfOk result (λ value. option_value_at cursor.old.left ≡ Some (value, cursor.new.left)) }
     ensures none { IsErrOf result ParseError.Syntax → option_value_at cursor.old.left ≡ None }
@@ -108,7 +108,7 @@ fn option_value(alloc: Global, cursor: &mut Cursor) -> Result<OptionValue, Parse
 }
 
 /// `option`
-#[tactic(auto, unfolding(crate::specs::Syntax::option_at))]
+#[tactic(auto, unfolding(crate::specs::Computed::option_at))]
 fn option(alloc: Global, cursor: &mut Cursor) -> Result<OptionNode, ParseError>
     ensures found { IfOk result (λ option. option_at cursor.old.left ≡ Some (option, cursor.new.left)) }
     ensures none { IsErrOf result ParseError.Syntax → option_at cursor.old.left ≡ None }
@@ -136,7 +136,7 @@ pub fn options(alloc: Global, cursor: &mut Cursor) -> Result<OptionNodes, ParseE
 }
 
 /// `[o "=" o literal]`
-#[tactic(auto, unfolding(crate::specs::Syntax::attribute_value_at))]
+#[tactic(auto, unfolding(crate::specs::Computed::attribute_value_at))]
 fn attribute_value(alloc: Global, cursor: &mut Cursor) -> Result<Option<Text>, ParseError>
     ensures found { IfOk result (λ value. attribute_value_at cursor.old.left ≡ Some (value, cursor.new.left)) }
     ensures none { IsErrOf result ParseError.Syntax → attribute_value_at cursor.old.left ≡ None }
@@ -154,7 +154,7 @@ fn attribute_value(alloc: Global, cursor: &mut Cursor) -> Result<Option<Text>, P
 }
 
 /// `attribute`
-#[tactic(auto, unfolding(crate::specs::Syntax::attribute_at))]
+#[tactic(auto, unfolding(crate::specs::Computed::attribute_at))]
 fn attribute(alloc: Global, cursor: &mut Cursor) -> Result<Attribute, ParseError>
     ensures found { IfOk result (λ attribute. attribute_at cursor.old.left ≡ Some (attribute, cursor.new.left)) }
     ensures none { IsErrOf result ParseError.Syntax → attribute_at cursor.old.left ≡ None }
@@ -182,7 +182,7 @@ pub fn attributes(alloc: Global, cursor: &mut Cursor) -> Result<Attributes, Pars
 }
 
 /// `function`
-#[tactic(auto, unfolding(crate::specs::Syntax::function_at))]
+#[tactic(auto, unfolding(crate::specs::Computed::function_at))]
 fn function(alloc: Global, cursor: &mut Cursor) -> Result<Call, ParseError>
     ensures found { IfOk result (λ call. function_at cursor.old.left ≡ Some (call, cursor.new.left)) }
     ensures none { IsErrOf result ParseError.Syntax → function_at cursor.old.left ≡ None }
@@ -196,7 +196,7 @@ fn function(alloc: Global, cursor: &mut Cursor) -> Result<Call, ParseError>
 }
 
 /// `[s function]`
-#[tactic(auto, unfolding(crate::specs::Syntax::spaced_function_at))]
+#[tactic(auto, unfolding(crate::specs::Computed::spaced_function_at))]
 fn spaced_function(alloc: Global, cursor: &mut Cursor) -> Result<Option<Call>, ParseError>
     ensures found { IfOk result (λ call. spaced_function_at cursor.old.left ≡ Some (call, cursor.new.left)) }
     ensures none { IsErrOf result ParseError.Syntax → spaced_function_at cursor.old.left ≡ None }
@@ -209,7 +209,7 @@ fn spaced_function(alloc: Global, cursor: &mut Cursor) -> Result<Option<Call>, P
 }
 
 /// `*(s attribute) o "}"`
-#[tactic(auto, unfolding(crate::specs::Syntax::last_attributes_at))]
+#[tactic(auto, unfolding(crate::specs::Computed::last_attributes_at))]
 pub fn last_attributes(alloc: Global, cursor: &mut Cursor) -> Result<Attributes, ParseError>
     ensures found { IfOk result (λ attributes. last_attributes_at cursor.old.left ≡ Some (attributes, cursor.new.left)) }
     ensures none { IsErrOf result ParseError.Syntax → last_attributes_at cursor.old.left ≡ None }
@@ -222,7 +222,7 @@ pub fn last_attributes(alloc: Global, cursor: &mut Cursor) -> Result<Attributes,
 }
 
 /// `[s function] *(s attribute) o "}"`
-#[tactic(auto, unfolding(crate::specs::Syntax::rest_of_expression_at))]
+#[tactic(auto, unfolding(crate::specs::Computed::rest_of_expression_at))]
 pub fn rest_of_expression(
     alloc: Global,
     cursor: &mut Cursor,
@@ -241,7 +241,7 @@ pub fn rest_of_expression(
 }
 
 /// `variable [s function] *(s attribute) o "}"`
-#[tactic(auto, unfolding(crate::specs::Syntax::of_variable_at))]
+#[tactic(auto, unfolding(crate::specs::Computed::of_variable_at))]
 fn of_variable(alloc: Global, cursor: &mut Cursor) -> Result<Expression, ParseError>
     ensures found { IfOk result (λ expression. of_variable_at cursor.old.left ≡ Some (expression, cursor.new.left)) }
     ensures none { IsErrOf result ParseError.Syntax → of_variable_at cursor.old.left ≡ None }
@@ -251,7 +251,7 @@ fn of_variable(alloc: Global, cursor: &mut Cursor) -> Result<Expression, ParseEr
 }
 
 /// `literal [s function] *(s attribute) o "}"`
-#[tactic(auto, unfolding(crate::specs::Syntax::of_literal_at))]
+#[tactic(auto, unfolding(crate::specs::Computed::of_literal_at))]
 fn of_literal(alloc: Global, cursor: &mut Cursor) -> Result<Expression, ParseError>
     ensures found { IfOk result (λ expression. of_literal_at cursor.old.left ≡ Some (expression, cursor.new.left)) }
     ensures none { IsErrOf result ParseError.Syntax → of_literal_at cursor.old.left ≡ None }
@@ -261,7 +261,7 @@ fn of_literal(alloc: Global, cursor: &mut Cursor) -> Result<Expression, ParseErr
 }
 
 /// `function *(s attribute) o "}"`
-#[tactic(auto, unfolding(crate::specs::Syntax::of_function_at))]
+#[tactic(auto, unfolding(crate::specs::Computed::of_function_at))]
 fn of_function(alloc: Global, cursor: &mut Cursor) -> Result<Expression, ParseError>
     ensures found { IfOk result (λ expression. of_function_at cursor.old.left ≡ Some (expression, cursor.new.left)) }
     ensures none { IsErrOf result ParseError.Syntax → of_function_at cursor.old.left ≡ None }
@@ -276,7 +276,7 @@ fn of_function(alloc: Global, cursor: &mut Cursor) -> Result<Expression, ParseEr
 }
 
 /// An expression behind its brace and the space.
-#[tactic(auto, unfolding(crate::specs::Syntax::inner_expression_at))]
+#[tactic(auto, unfolding(crate::specs::Computed::inner_expression_at))]
 pub fn inner_expression(alloc: Global, cursor: &mut Cursor) -> Result<Expression, ParseError>
     ensures found { IfOk result (λ expression. inner_expression_at cursor.old.left ≡ Some (expression, cursor.new.left)) }
     ensures none { IsErrOf result ParseError.Syntax → inner_expression_at cursor.old.left ≡ None }
@@ -291,7 +291,7 @@ pub fn inner_expression(alloc: Global, cursor: &mut Cursor) -> Result<Expression
 }
 
 /// `expression`
-#[tactic(auto, unfolding(crate::specs::Syntax::expression_at))]
+#[tactic(auto, unfolding(crate::specs::Computed::expression_at))]
 pub fn expression(alloc: Global, cursor: &mut Cursor) -> Result<Expression, ParseError>
     ensures found { IfOk result (λ expression. expression_at cursor.old.left ≡ Some (expression, cursor.new.left)) }
     ensures none { IsErrOf result ParseError.Syntax → expression_at cursor.old.left ≡ None }

@@ -1,6 +1,6 @@
 //! Markup and placeholders, one function a production.
 ghost use Rattle.std.specs.Prelude.{◌≡◌, Some, None, IfOk, IsErrOf};
-ghost use Rattle.mf_parse.specs.Syntax.{closing_at, form_at, inner_placeholder_at, opening_at, placeholder_at};
+ghost use Rattle.mf_parse.specs.Computed.{closing_at, form_at, inner_placeholder_at, opening_at, placeholder_at};
 
 use crate::error::ParseError;
 use crate::expression::{attributes, identifier, inner_expression, last_attributes, options};
@@ -10,7 +10,7 @@ use mf_tree::{Form, Markup, Piece};
 use std::alloc::Global;
 
 /// `o ["/"] "}"`
-#[tactic(auto, unfolding(crate::specs::Syntax::form_at, crate::specs::Syntax::behind_brace))]
+#[tactic(auto, unfolding(crate::specs::Computed::form_at, crate::specs::Computed::behind_brace))]
 fn form(cursor: &mut Cursor) -> Result<Form, ParseError>
     ensures found { IfOk result (λ form. form_at cursor.old.left ≡ Some (form, cursor.new.left)) }
     ensures none { IsErrOf result ParseError.Syntax → form_at cursor.old.left ≡ None }
@@ -29,7 +29,7 @@ fn form(cursor: &mut Cursor) -> Result<Form, ParseError>
 }
 
 /// Markup behind its `#`.
-#[tactic(auto, unfolding(crate::specs::Syntax::opening_at))]
+#[tactic(auto, unfolding(crate::specs::Computed::opening_at))]
 fn opening(alloc: Global, cursor: &mut Cursor) -> Result<Markup, ParseError>
     ensures found { IfOk result (λ markup. opening_at cursor.old.left ≡ Some (markup, cursor.new.left)) }
     ensures none { IsErrOf result ParseError.Syntax → opening_at cursor.old.left ≡ None }
@@ -47,7 +47,7 @@ fn opening(alloc: Global, cursor: &mut Cursor) -> Result<Markup, ParseError>
 }
 
 /// Markup behind its `/`.
-#[tactic(auto, unfolding(crate::specs::Syntax::closing_at))]
+#[tactic(auto, unfolding(crate::specs::Computed::closing_at))]
 fn closing(alloc: Global, cursor: &mut Cursor) -> Result<Markup, ParseError>
     ensures found { IfOk result (λ markup. closing_at cursor.old.left ≡ Some (markup, cursor.new.left)) }
     ensures none { IsErrOf result ParseError.Syntax → closing_at cursor.old.left ≡ None }
@@ -64,7 +64,7 @@ fn closing(alloc: Global, cursor: &mut Cursor) -> Result<Markup, ParseError>
 }
 
 /// A placeholder behind its brace and the space.
-#[tactic(auto, unfolding(crate::specs::Syntax::inner_placeholder_at))]
+#[tactic(auto, unfolding(crate::specs::Computed::inner_placeholder_at))]
 fn inner_placeholder(alloc: Global, cursor: &mut Cursor) -> Result<Piece, ParseError>
     ensures found { IfOk result (λ piece. inner_placeholder_at cursor.old.left ≡ Some (piece, cursor.new.left)) }
     ensures none { IsErrOf result ParseError.Syntax → inner_placeholder_at cursor.old.left ≡ None }
@@ -82,7 +82,7 @@ fn inner_placeholder(alloc: Global, cursor: &mut Cursor) -> Result<Piece, ParseE
 }
 
 /// `placeholder`
-#[tactic(auto, unfolding(crate::specs::Syntax::placeholder_at))]
+#[tactic(auto, unfolding(crate::specs::Computed::placeholder_at))]
 pub fn placeholder(alloc: Global, cursor: &mut Cursor) -> Result<Piece, ParseError>
     ensures found { IfOk result (λ piece. placeholder_at cursor.old.left ≡ Some (piece, cursor.new.left)) }
     ensures none { IsErrOf result ParseError.Syntax → placeholder_at cursor.old.left ≡ None }

@@ -1,7 +1,7 @@
 //! Matchers, one function a production.
 ghost use Rattle.std.specs.Prelude.{◌≡◌, true, false, Some, None, IfOk, IsErrOf, MatchBool};
-ghost use Rattle.mf_lex.specs.Reading.{after_space};
-ghost use Rattle.mf_parse.specs.Syntax.{begins_key, begins_variant, key_at, keys_at, matcher_at, selectors_at, variant_at, variants_at};
+ghost use Rattle.mf_lex.specs.Computed.{after_space};
+ghost use Rattle.mf_parse.specs.Computed.{begins_key, begins_variant, key_at, keys_at, matcher_at, selectors_at, variant_at, variants_at};
 
 use crate::error::ParseError;
 use crate::expression::{literal, variable};
@@ -12,7 +12,7 @@ use mf_tree::{Body, Key, Keys, Names, Variant, Variants};
 use std::alloc::Global;
 
 /// `key`
-#[tactic(auto, unfolding(crate::specs::Syntax::key_at))]
+#[tactic(auto, unfolding(crate::specs::Computed::key_at))]
 fn key(alloc: Global, cursor: &mut Cursor) -> Result<Key, ParseError>
     ensures found { IfOk result (λ key. key_at cursor.old.left ≡ Some (key, cursor.new.left)) }
     ensures none { IsErrOf result ParseError.Syntax → key_at cursor.old.left ≡ None }
@@ -39,7 +39,7 @@ fn pass_space_before_key(cursor: &mut Cursor) -> bool
 }
 
 /// `key *(s key)`
-#[tactic(auto, using(crate::proofs::Chains::keys_none_1, crate::proofs::Bodies::further_key_none))]
+#[tactic(auto, using(crate::proofs::Chains::keys_none_1, crate::proofs::Gathers::key_none))]
 fn keys(alloc: Global, cursor: &mut Cursor) -> Result<Keys, ParseError>
     ensures found { IfOk result (λ keys. keys_at cursor.old.left ≡ Some (keys, cursor.new.left)) }
     ensures none { IsErrOf result ParseError.Syntax → keys_at cursor.old.left ≡ None }
@@ -55,7 +55,7 @@ fn keys(alloc: Global, cursor: &mut Cursor) -> Result<Keys, ParseError>
 }
 
 /// `variant`
-#[tactic(auto, unfolding(crate::specs::Syntax::variant_at))]
+#[tactic(auto, unfolding(crate::specs::Computed::variant_at))]
 fn variant(alloc: Global, cursor: &mut Cursor) -> Result<Variant, ParseError>
     ensures found { IfOk result (λ variant. variant_at cursor.old.left ≡ Some (variant, cursor.new.left)) }
     ensures none { IsErrOf result ParseError.Syntax → variant_at cursor.old.left ≡ None }
@@ -82,7 +82,7 @@ fn pass_space_before_variant(cursor: &mut Cursor) -> bool
 }
 
 /// `variant *(o variant)`
-#[tactic(auto, using(crate::proofs::Chains::variants_none_1, crate::proofs::Bodies::further_variant_none))]
+#[tactic(auto, using(crate::proofs::Chains::variants_none_1, crate::proofs::Gathers::variant_none))]
 fn variants(alloc: Global, cursor: &mut Cursor) -> Result<Variants, ParseError>
     ensures found { IfOk result (λ variants. variants_at cursor.old.left ≡ Some (variants, cursor.new.left)) }
     ensures none { IsErrOf result ParseError.Syntax → variants_at cursor.old.left ≡ None }
@@ -112,7 +112,7 @@ fn selectors(alloc: Global, cursor: &mut Cursor) -> Result<Names, ParseError>
 }
 
 /// A matcher behind its word.
-#[tactic(auto, unfolding(crate::specs::Syntax::matcher_at))]
+#[tactic(auto, unfolding(crate::specs::Computed::matcher_at))]
 pub fn matcher(alloc: Global, cursor: &mut Cursor) -> Result<Body, ParseError>
     ensures found { IfOk result (λ body. matcher_at cursor.old.left ≡ Some (body, cursor.new.left)) }
     ensures none { IsErrOf result ParseError.Syntax → matcher_at cursor.old.left ≡ None }

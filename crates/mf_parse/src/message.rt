@@ -1,8 +1,8 @@
 //! Messages: `parse`, and one function for each form of a message.
 ghost use Rattle.std.specs.Prelude.{◌≡◌, ◌≢◌, [], Some, None, chars, IfOk, IsErrOf, MatchBool};
-ghost use Rattle.mf_tree.specs.Spells.{SpellsMessage};
+ghost use Rattle.mf_tree.specs.Grammar.{SpellsMessage};
 ghost use Rattle.mf_parse.specs.Parsing.{IsSource};
-ghost use Rattle.mf_parse.specs.Syntax.{begins_simply as starts_simply, body_at, complex_at, message_of, simple_at};
+ghost use Rattle.mf_parse.specs.Computed.{begins_simply as starts_simply, body_at, complex_at, message_of, simple_at};
 
 use crate::declaration::declarations;
 use crate::error::ParseError;
@@ -36,7 +36,7 @@ pub fn parse(alloc: Global, text: &str) -> Result<Message, ParseError>
 }
 
 /// `complex-body`
-#[tactic(auto, unfolding(crate::specs::Syntax::body_at))]
+#[tactic(auto, unfolding(crate::specs::Computed::body_at))]
 fn complex_body(alloc: Global, cursor: &mut Cursor) -> Result<Body, ParseError>
     ensures found { IfOk result (λ body. body_at cursor.old.left ≡ Some (body, cursor.new.left)) }
     ensures none { IsErrOf result ParseError.Syntax → body_at cursor.old.left ≡ None }
@@ -61,7 +61,7 @@ fn is_end(cursor: &Cursor) -> bool
 }
 
 /// `complex-message`, which is all that is left.
-#[tactic(auto, unfolding(crate::specs::Syntax::complex_at))]
+#[tactic(auto, unfolding(crate::specs::Computed::complex_at))]
 fn whole_complex_message(alloc: Global, cursor: &mut Cursor) -> Result<Message, ParseError>
     ensures found { IfOk result (λ message. complex_at cursor.old.left ≡ Some message) }
     ensures none { IsErrOf result ParseError.Syntax → complex_at cursor.old.left ≡ None }
@@ -103,7 +103,7 @@ fn begins_simply(cursor: &Cursor) -> bool
 }
 
 /// `simple-message`, which is all that is left.
-#[tactic(auto, unfolding(crate::specs::Syntax::simple_at))]
+#[tactic(auto, unfolding(crate::specs::Computed::simple_at))]
 fn simple_message(alloc: Global, cursor: &mut Cursor) -> Result<Message, ParseError>
     ensures found { IfOk result (λ message. simple_at cursor.old.left ≡ Some message) }
     ensures none { IsErrOf result ParseError.Syntax → simple_at cursor.old.left ≡ None }

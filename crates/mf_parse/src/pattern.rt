@@ -1,9 +1,9 @@
 //! Patterns, one function a production.
 ghost use Rattle.std.specs.Prelude.{◌≡◌, ◌<◌, ◌≤◌, ◌++◌, true, false, Some, None, length, IfOk, OnOk, IsErrOf, MatchBool};
 ghost use Rattle.mf_text.specs.Characters.{is_text};
-ghost use Rattle.mf_lex.specs.Reading.{is_next as comes_next, run, behind_run};
+ghost use Rattle.mf_lex.specs.Computed.{is_next as comes_next, run, behind_run};
 ghost use Rattle.mf_tree.specs.declared.pattern.Piece.TheVariants as Pieces;
-ghost use Rattle.mf_parse.specs.Syntax.{goes_on as pattern_goes_on, is_at, made, onto, pattern_at, quoted_pattern_at, text_ends, word_at};
+ghost use Rattle.mf_parse.specs.Computed.{goes_on as pattern_goes_on, is_at, made, onto, pattern_at, quoted_pattern_at, text_ends, word_at};
 
 use crate::error::ParseError;
 use crate::markup::placeholder;
@@ -108,7 +108,7 @@ pub fn pattern(alloc: Global, cursor: &mut Cursor) -> Result<Pattern, ParseError
 }
 
 /// `quoted-pattern`
-#[tactic(auto, unfolding(crate::specs::Syntax::quoted_pattern_at))]
+#[tactic(auto, unfolding(crate::specs::Computed::quoted_pattern_at))]
 pub fn quoted_pattern(alloc: Global, cursor: &mut Cursor) -> Result<Pattern, ParseError>
     ensures found { IfOk result (λ pattern. quoted_pattern_at cursor.old.left ≡ Some (pattern, cursor.new.left)) }
     ensures none { IsErrOf result ParseError.Syntax → quoted_pattern_at cursor.old.left ≡ None }

@@ -1,8 +1,8 @@
 //! Spaces, and the characters that they stand before.
 ghost use Rattle.std.specs.Prelude.{◌≡◌, ◌==◌, true, false, Some, None, MatchBool};
 ghost use Rattle.mf_text.specs.Characters.{is_name_start as has_name_start};
-ghost use Rattle.mf_lex.specs.Reading.{after_space, is_next as comes_next};
-ghost use Rattle.mf_parse.specs.Syntax.{behind_brace, behind_equals, inside, is_at, is_spaced};
+ghost use Rattle.mf_lex.specs.Computed.{after_space, is_next as comes_next};
+ghost use Rattle.mf_parse.specs.Computed.{behind_brace, behind_equals, inside, is_at, is_spaced};
 
 use mf_lex::Cursor;
 use mf_text::is_name_start;
@@ -56,7 +56,7 @@ fn is_name_next(cursor: &Cursor) -> bool
 }
 
 /// Passes an equals sign with the space around it.
-#[tactic(auto, unfolding(crate::specs::Syntax::behind_equals))]
+#[tactic(auto, unfolding(crate::specs::Computed::behind_equals))]
 pub fn pass_equals(cursor: &mut Cursor) -> bool
     ensures { MatchBool result (behind_equals cursor.old.left ≡ Some cursor.new.left) (behind_equals cursor.old.left ≡ None) }
 {
@@ -69,7 +69,7 @@ pub fn pass_equals(cursor: &mut Cursor) -> bool
 }
 
 /// Passes a closing brace with the space before it.
-#[tactic(auto, unfolding(crate::specs::Syntax::behind_brace))]
+#[tactic(auto, unfolding(crate::specs::Computed::behind_brace))]
 pub fn pass_closing(cursor: &mut Cursor) -> bool
     ensures { MatchBool result (behind_brace cursor.old.left ≡ Some cursor.new.left) (behind_brace cursor.old.left ≡ None) }
 {
@@ -78,7 +78,7 @@ pub fn pass_closing(cursor: &mut Cursor) -> bool
 }
 
 /// Passes an opening brace with the space behind it.
-#[tactic(auto, unfolding(crate::specs::Syntax::inside))]
+#[tactic(auto, unfolding(crate::specs::Computed::inside))]
 pub fn pass_opening(cursor: &mut Cursor) -> bool
     ensures { MatchBool result (inside cursor.old.left ≡ Some cursor.new.left) (inside cursor.old.left ≡ None) }
 {

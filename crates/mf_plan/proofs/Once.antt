@@ -8,8 +8,8 @@ use Rattle.mf_tree.specs.declared.fault.Kind.TheVariants as kind
 use Rattle.mf_tree.specs.Compiled.{Compilation, Compiled, most_declarations, compiled_to_nothing, compiled_past_the_limit, compiled_with_faults, compiled_to_a_message}
 use Rattle.mf_tree.specs.Compiled as compiled
 use Rattle.mf_tree.specs.Faults.{faults}
-use Rattle.mf_tree.specs.Spells.{SpellsMessage}
-use Rattle.mf_parse.specs.Syntax.{message_of}
+use Rattle.mf_tree.specs.Grammar.{SpellsMessage}
+use Rattle.mf_parse.specs.Computed.{message_of}
 use Rattle.mf_parse.proofs.Messages.{message_complete}
 use Rattle.mf_parse.proofs.SoundMessages.{message_sound}
 use Rattle.mf_plan.specs.Computed.{checked, invalid, plan_from, plan_of, with_faults}

@@ -6,7 +6,7 @@ use Rattle.mf_tree.specs.declared.fault.Kind.TheVariants as kind
 use Rattle.mf_tree.specs.declared.fault.Fault.{Fault}
 use Rattle.mf_tree.specs.Compiled.{most_declarations}
 use Rattle.mf_tree.specs.Faults.{faults}
-use Rattle.mf_parse.specs.Syntax.{message_of}
+use Rattle.mf_parse.specs.Computed.{message_of}
 use Rattle.mf_plan.specs.declared.plan.Plan.{Plan}
 use Rattle.mf_plan.specs.declared.plan.Plan.TheVariants.{Invalid, Valid}
 

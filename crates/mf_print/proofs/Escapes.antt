@@ -5,9 +5,9 @@ use Rattle.std.specs.List.{flat_map}
 use Rattle.std.proofs.lemmas.Bool.{and_parts, or_cases, cases_Bool, cond-true, cond-false, leb-true, false≢true}
 use Rattle.mf_text.specs.Characters.{Table, is_in, is_text, is_quoted, is_escapable}
 use Rattle.mf_text.specs.Languages.{Each}
-use Rattle.mf_text.specs.Lexical.{SpellsQuotedPart, SpellsQuotedLiteral, SpellsLiteral, is_unquoted}
+use Rattle.mf_text.specs.Grammar.{SpellsQuotedPart, SpellsQuotedLiteral, SpellsLiteral, is_unquoted}
 use Rattle.mf_tree.specs.Nodes.{HasNoNull}
-use Rattle.mf_tree.specs.Spells.{SpellsItem, character}
+use Rattle.mf_tree.specs.Grammar.{SpellsItem, character}
 use Rattle.mf_tree.specs.Canonical.{escaped, escaped_in_text, escaped_in_quotes, quoted_source, literal_source}
 
 -- the code point of a row of one

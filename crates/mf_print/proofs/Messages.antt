@@ -5,7 +5,7 @@ use Rattle.std.proofs.lemmas.List.{append-nil}
 use Rattle.std.specs.List.{flat_map, AllByRecursion}
 use Rattle.std.specs.Prelude.{Option}
 use Rattle.mf_text.specs.Languages.{Language, Word, ◌⋅◌, Each}
-use Rattle.mf_text.specs.Lexical.{O, S}
+use Rattle.mf_text.specs.Grammar.{O, S}
 use Rattle.mf_tree.specs.declared.name.Name.{Name}
 use Rattle.mf_tree.specs.declared.expression.Operand.{Operand}
 use Rattle.mf_tree.specs.declared.expression.Call.{Call}
@@ -20,7 +20,7 @@ use Rattle.mf_tree.specs.declared.message.Key.TheVariants as Keys
 use Rattle.mf_tree.specs.declared.message.Declaration.TheVariants as Declarations
 use Rattle.mf_tree.specs.declared.message.Body.TheVariants as Bodies
 use Rattle.mf_tree.specs.Nodes.{IfThere, OfSome, IsName, IsAttribute, IsCall, IsInputOf, IsDeclaration, IsKey, IsVariant, IsBody, IsMessage}
-use Rattle.mf_tree.specs.Spells.{EachOfSome, SpellsVariable, SpellsExpression, SpellsVariableExpression, SpellsInputOf, SpellsDeclaration, SpellsDeclarationAndSpace, SpellsKey, SpellsSpacedKey, SpellsKeys, SpellsVariant, SpellsFurtherVariant, SpellsVariants, SpellsSelector, SpellsMatcher, SpellsComplexBody, SpellsComplexMessage, SpellsQuotedPattern, SpellsSimpleMessage, SpellsSimpleBody, SpellsMessage}
+use Rattle.mf_tree.specs.Grammar.{EachOfSome, SpellsVariable, SpellsExpression, SpellsVariableExpression, SpellsInputOf, SpellsDeclaration, SpellsDeclarationAndSpace, SpellsKey, SpellsSpacedKey, SpellsKeys, SpellsVariant, SpellsFurtherVariant, SpellsVariants, SpellsSelector, SpellsMatcher, SpellsComplexBody, SpellsComplexMessage, SpellsQuotedPattern, SpellsSimpleMessage, SpellsSimpleBody, SpellsMessage}
 use Rattle.mf_tree.specs.Canonical.{variable_source, expression_of_source, expression_source, quoted_pattern_source, pattern_source, must_be_quoted, declaration_source, declarations_source, selector_source, key_source, further_key_source, keys_source, variant_source, matcher_source, complex_body_source, body_source, message_of_source, canonical}
 use Rattle.mf_print.proofs.Escapes.{literal}
 use Rattle.mf_print.proofs.Spelling.{both, unspaced, spaced, three, behind_word, each, variable, variable_expression, expression}

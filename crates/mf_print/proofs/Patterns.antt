@@ -8,7 +8,7 @@ use Rattle.mf_text.specs.Languages.{Word, ◌⋅◌}
 use Rattle.mf_tree.specs.declared.pattern.Piece.{Piece}
 use Rattle.mf_tree.specs.declared.pattern.Piece.TheVariants as Pieces
 use Rattle.mf_tree.specs.Nodes.{HasNoNull, IsPiece, AreApart, IsPattern}
-use Rattle.mf_tree.specs.Spells.{Item, character, placeholder, SpellsItem, SpellsItems, SpellsPlaceholder, SpellsSimpleStart, SpellsFromStart, SpellsSpace, SpellsSimpleMessage, SpellsQuotedPattern, onto_text, pattern_of}
+use Rattle.mf_tree.specs.Grammar.{Item, character, placeholder, SpellsItem, SpellsItems, SpellsPlaceholder, SpellsSimpleStart, SpellsFromStart, SpellsSpace, SpellsSimpleMessage, SpellsQuotedPattern, onto_text, pattern_of}
 use Rattle.mf_tree.specs.Canonical.{escaped, escaped_in_text, text_source, piece_source, pattern_source, quoted_pattern_source, begins_with_full_stop, must_be_quoted}
 use Rattle.mf_print.proofs.Escapes.{text_character, is_plain_text, escape_is, plain_is, of_escaped, text_escapable, point}
 use Rattle.mf_print.proofs.Spelling.{both, behind_word, expression, markup}

@@ -6,7 +6,7 @@ use Rattle.std.specs.List.{find, list_all}
 use Rattle.std.specs.Prelude.{encode_utf8_all}
 use Rattle.std.specs.Str.{IsUtf8}
 use Rattle.mf_text.specs.Characters.{is_ws, is_bidi, is_space, is_name_char}
-use Rattle.mf_text.specs.Lexical.{is_unquoted}
+use Rattle.mf_text.specs.Grammar.{is_unquoted}
 use Rattle.mf_tree.specs.Canonical.{begins_with_full_stop}
 
 -- neither white space nor a mark

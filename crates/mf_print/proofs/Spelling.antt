@@ -4,7 +4,7 @@ use Rattle.std.proofs.lemmas.List.{append-nil}
 use Rattle.std.specs.List.{flat_map, AllByRecursion}
 use Rattle.std.specs.Option.{option_map}
 use Rattle.mf_text.specs.Languages.{Language, Word, ◌⋅◌, Maybe, Each}
-use Rattle.mf_text.specs.Lexical.{O, S, SpellsName, SpellsNamespace, SpellsLiteral, is_bare_name}
+use Rattle.mf_text.specs.Grammar.{O, S, SpellsName, SpellsNamespace, SpellsLiteral, is_bare_name}
 use Rattle.mf_tree.specs.declared.name.Name.{Name}
 use Rattle.mf_tree.specs.declared.name.Identifier.{Identifier}
 use Rattle.mf_tree.specs.declared.expression.Operand.{Operand}
@@ -19,7 +19,7 @@ use Rattle.mf_tree.specs.declared.expression.Operand.TheVariants as Operands
 use Rattle.mf_tree.specs.declared.expression.OptionValue.TheVariants as OptionValues
 use Rattle.mf_tree.specs.declared.pattern.Form.TheVariants as Forms
 use Rattle.mf_tree.specs.Nodes.{IfThere, IsName, IsIdentifier, HasNoNull, IsOptionValue, IsOption, IsAttribute, IsCall, IsOperandOf, IsExpression, IsMarkup}
-use Rattle.mf_tree.specs.Spells.{SpellsIdentifierNode, SpellsVariable, SpellsOptionValue, SpellsOption, SpellsSpacedOption, SpellsAttributeValue, SpellsAttribute, SpellsSpacedAttribute, SpellsFunction, SpellsSpacedFunction, SpellsExpressionOf, SpellsExpression, SpellsMarkup, SpellsMarkupOf, SpellsVariableExpression}
+use Rattle.mf_tree.specs.Grammar.{SpellsIdentifierNode, SpellsVariable, SpellsOptionValue, SpellsOption, SpellsSpacedOption, SpellsAttributeValue, SpellsAttribute, SpellsSpacedAttribute, SpellsFunction, SpellsSpacedFunction, SpellsExpressionOf, SpellsExpression, SpellsMarkup, SpellsMarkupOf, SpellsVariableExpression}
 use Rattle.mf_tree.specs.Canonical.{literal_source, variable_source, namespace_source, identifier_source, option_value_source, option_source, options_source, attribute_value_source, attribute_source, attributes_source, function_source, further_function_source, expression_of_source, expression_source, opening_source, closing_source, markup_source}
 use Rattle.mf_print.proofs.Escapes.{literal}
 

@@ -1,7 +1,7 @@
 -- What holds of canonical sources.
 use Rattle.mf_tree.specs.declared.message.Message.{Message}
 use Rattle.mf_tree.specs.Nodes.{IsMessage}
-use Rattle.mf_tree.specs.Spells.{SpellsMessage}
+use Rattle.mf_tree.specs.Grammar.{SpellsMessage}
 use Rattle.mf_tree.specs.Canonical.{canonical}
 
 -- the canonical source of a node spells it

@@ -1,6 +1,6 @@
 //! Characters, escaped where they must be, and literals, quoted where they must be.
 ghost use Rattle.std.specs.Prelude.{◌≡◌, ◌++◌, chars, OnOk};
-ghost use Rattle.mf_text.specs.Lexical.{is_unquoted as has_unquoted_form};
+ghost use Rattle.mf_text.specs.Grammar.{is_unquoted as has_unquoted_form};
 ghost use Rattle.mf_tree.specs.Canonical.{escaped, escaped_in_quotes, escaped_in_text, literal_source, quoted_source, text_source};
 
 use mf_text::{Text, is_name_char};

@@ -1,7 +1,7 @@
 //! Whole messages, and the one public call.
 ghost use Rattle.std.specs.Prelude.{◌≡◌, ◌++◌, IfOk, OnOk};
 ghost use Rattle.mf_tree.specs.Nodes.{IsMessage};
-ghost use Rattle.mf_tree.specs.Spells.{SpellsMessage};
+ghost use Rattle.mf_tree.specs.Grammar.{SpellsMessage};
 ghost use Rattle.mf_tree.specs.Canonical.{body_source, canonical, complex_body_source, declaration_source, declarations_source, further_key_source, input_source, key_source, keys_source, local_source, matcher_source, selector_source, variant_source};
 ghost use Rattle.std.specs.List.{flat_map};
 

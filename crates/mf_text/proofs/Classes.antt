@@ -1,6 +1,6 @@
 -- Classes of characters that have none in common.
-use Rattle.std.proofs.Common.{◌≡◌, ℕ, suc, Bool, true, false, ◌&&◌, ◌||◌, [], ◌∷◌, refl, inl, inr, arith}
-use Rattle.std.proofs.lemmas.Bool.{and_parts, or_cases, cases_Bool, leb-true, false≢true}
+use Rattle.std.proofs.Common.{◌≡◌, ℕ, suc, Bool, true, false, ◌&&◌, ◌||◌, [], ◌∷◌, refl, sym, ◌∙◌, inl, inr, arith}
+use Rattle.std.proofs.lemmas.Bool.{and_parts, or_cases, or_left, or_right, cases_Bool, leb-true, false≢true}
 use Rattle.std.specs.Prelude.{nat_le}
 use Rattle.mf_text.specs.Characters.{Table, is_in, ws, bidi, name_start_below, name_start_above, name_rest, is_ws, is_bidi, is_space, is_name_start, is_name_char}
 
@@ -83,3 +83,39 @@ space_is_no_name_char c is =
 -- no mark of direction is white space
 pub mark_is_no_ws : (c : ℕ) → is_bidi c ≡ true → is_ws c ≡ true → ⊥
 mark_is_no_ws c mark white = apart bidi ws c refl mark white
+
+-- what a name begins with it may go on with
+pub name_start_is_name_char : (c : ℕ) → is_name_start c ≡ true → is_name_char c ≡ true
+unfolding is_name_char
+name_start_is_name_char c is = or_left (is_name_start c) (is_in name_rest c) is
+
+pub mark_is_no_name_start : (c : ℕ) → is_bidi c ≡ true → is_name_start c ≡ false
+mark_is_no_name_start c is =
+    elim (cases_Bool (is_name_start c)) [
+      | inl start ↦ absurd (false≢true (sym (mark_is_no_name_char c is) ∙ name_start_is_name_char c start))
+      | inr other ↦ other
+    ]
+
+pub name_start_is_no_mark : (c : ℕ) → is_name_start c ≡ true → is_bidi c ≡ false
+name_start_is_no_mark c is =
+    elim (cases_Bool (is_bidi c)) [
+      | inl mark ↦ absurd (false≢true (sym (mark_is_no_name_start c mark) ∙ is))
+      | inr other ↦ other
+    ]
+
+pub ws_is_no_mark : (c : ℕ) → is_ws c ≡ true → is_bidi c ≡ false
+ws_is_no_mark c is = elim (cases_Bool (is_bidi c)) [ inl mark ↦ absurd (mark_is_no_ws c mark is) | inr other ↦ other ]
+
+-- white space and marks are the space
+pub ws_is_space : (c : ℕ) → is_ws c ≡ true → is_space c ≡ true
+ws_is_space c is = or_left (is_ws c) (is_bidi c) is
+
+pub mark_is_space : (c : ℕ) → is_bidi c ≡ true → is_space c ≡ true
+mark_is_space c is = or_right (is_ws c) (is_bidi c) is
+
+pub name_char_is_no_mark : (c : ℕ) → is_name_char c ≡ true → is_bidi c ≡ false
+name_char_is_no_mark c is =
+    elim (cases_Bool (is_bidi c)) [
+      | inl mark ↦ absurd (false≢true (sym (mark_is_no_name_char c mark) ∙ is))
+      | inr other ↦ other
+    ]

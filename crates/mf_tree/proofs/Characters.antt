@@ -4,7 +4,7 @@ use Rattle.std.proofs.lemmas.Bool.{and_parts, false≢true}
 use Rattle.std.specs.List.{list_all}
 use Rattle.mf_text.specs.Characters.{is_space, is_text, is_simple_start, is_quoted, is_escapable, is_name_char, is_name_start}
 use Rattle.mf_text.specs.Languages.{Each}
-use Rattle.mf_text.specs.Lexical.{SpellsQuotedPart, SpellsLiteral, is_unquoted}
+use Rattle.mf_text.specs.Grammar.{SpellsQuotedPart, SpellsLiteral, is_unquoted}
 use Rattle.mf_tree.specs.Nodes.{HasNoNull}
 
 pub text_no_null : (c : ℕ) → is_text c ≡ true → c ≢ 0

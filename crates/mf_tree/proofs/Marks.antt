@@ -7,23 +7,12 @@ use Rattle.std.specs.List.{list_all}
 use Rattle.unicode_normalization.specs.Forms.{nfc}
 use mathlib.Core.List.{is_set}
 use native.Mathlib.Nat.{ℕ_set}
-use Rattle.mf_text.proofs.Classes.{mark_is_no_name_char}
+use Rattle.mf_text.proofs.Classes.{name_char_is_no_mark, name_start_is_name_char}
 use Rattle.mf_text.specs.Characters.{is_bidi, is_name_start, is_name_char}
 use Rattle.mf_text.specs.Languages.{Optional, One}
-use Rattle.mf_text.specs.Lexical.{is_bare_name, SpellsName}
+use Rattle.mf_text.specs.Grammar.{is_bare_name, SpellsName}
 use Rattle.mf_tree.specs.declared.name.Name.{Name}
 use Rattle.mf_tree.specs.Laws.{without_marks}
-
-name_char_is_no_mark : (c : ℕ) → is_name_char c ≡ true → is_bidi c ≡ false
-name_char_is_no_mark c is =
-    elim (cases_Bool (is_bidi c)) [
-      | inl mark ↦ absurd (false≢true (sym (mark_is_no_name_char c mark) ∙ is))
-      | inr other ↦ other
-    ]
-
-start_is_name_char : (c : ℕ) → is_name_start c ≡ true → is_name_char c ≡ true
-unfolding is_name_char
-start_is_name_char c is = cc
 
 kept : (c : ℕ) (cs : List ℕ) → is_bidi c ≡ false → without_marks (c ∷ cs) ≡ c ∷ without_marks cs
 kept c cs other = cond-true (not (is_bidi c)) _ _ (ap not other)
@@ -41,7 +30,7 @@ of_bare_name : (cs : List ℕ) → is_bare_name cs ≡ true → without_marks cs
 of_bare_name [] is = absurd (false≢true is)
 of_bare_name (c ∷ cs) is =
     let parts = and_parts (is_name_start c) (list_all is_name_char cs) is in
-    kept c cs (name_char_is_no_mark c (start_is_name_char c parts.0)) ∙ ap (λ cs. c ∷ cs) (of_name_chars cs parts.1)
+    kept c cs (name_char_is_no_mark c (name_start_is_name_char c parts.0)) ∙ ap (λ cs. c ∷ cs) (of_name_chars cs parts.1)
 
 of_mark : (text : List ℕ) → Optional (One is_bidi) text → without_marks text ≡ []
 of_mark text (inl empty) = ap without_marks empty

@@ -2,7 +2,7 @@
 use Rattle.std.specs.Prelude.{ℕ, Bool, false, ◌==◌, List, [], ◌∷◌, ◌++◌, Option, Some, None, codes, if◌then◌else◌}
 use Rattle.std.specs.List.{flat_map}
 use Rattle.mf_text.specs.Characters.{Table, is_in, is_space}
-use Rattle.mf_text.specs.Lexical.{is_unquoted}
+use Rattle.mf_text.specs.Grammar.{is_unquoted}
 use Rattle.mf_tree.specs.declared.name.Name.{Name}
 use Rattle.mf_tree.specs.declared.name.Identifier.{Identifier}
 use Rattle.mf_tree.specs.declared.expression.Operand.{Operand}

@@ -3,7 +3,7 @@ use Rattle.std.specs.Prelude.{◌≢◌, ◌≡◌, ◌<◌, ◌≤◌, ℕ, Lis
 use Rattle.mf_tree.specs.declared.message.Message.{Message}
 use Rattle.mf_tree.specs.declared.fault.Fault.{Fault}
 use Rattle.mf_tree.specs.declared.fault.Kind.TheVariants as Kinds
-use Rattle.mf_tree.specs.Spells.{SpellsMessage}
+use Rattle.mf_tree.specs.Grammar.{SpellsMessage}
 use Rattle.mf_tree.specs.Faults.{faults}
 
 pub data Compilation : Type 0 where

@@ -1,7 +1,7 @@
 -- What holds of every message that is spelled, and of every name.
 use Rattle.std.specs.Prelude.{◌≡◌, ◌↔◌, ℕ, IsTrue, List, filter, not}
 use Rattle.mf_text.specs.Characters.{is_bidi}
-use Rattle.mf_text.specs.Lexical.{SpellsName}
+use Rattle.mf_text.specs.Grammar.{SpellsName}
 use Rattle.mf_tree.specs.declared.name.Name.{Name}
 use Rattle.mf_tree.specs.declared.name.Identifier.{Identifier}
 use Rattle.mf_tree.specs.declared.message.Declaration.{Declaration}
@@ -10,7 +10,7 @@ use Rattle.mf_tree.specs.declared.message.Message.{Message}
 use Rattle.mf_tree.specs.Equality.{is_same_identifier, is_same_key, is_same_keys, is_same_name, AreSameIdentifiers, AreSameKeyLists, AreSameKeys, AreSameNames}
 use Rattle.mf_tree.specs.Faults.{is_annotated, IsAnnotated}
 use Rattle.mf_tree.specs.Nodes.{IsMessage}
-use Rattle.mf_tree.specs.Spells.{SpellsMessage}
+use Rattle.mf_tree.specs.Grammar.{SpellsMessage}
 
 -- what a text spells is a node
 abbrev pub SpellsNodes : Type 0

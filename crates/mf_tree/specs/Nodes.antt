@@ -1,7 +1,7 @@
 -- Which values of the node types are nodes: those that some text spells (Unicode TS 35, Part 9, "Message syntax").
 use Rattle.std.specs.Prelude.{◌≡◌, ◌≢◌, ℕ, IsTrue, List, [], ◌∷◌, Option, Some, None}
 use Rattle.std.specs.List.{AllByRecursion}
-use Rattle.mf_text.specs.Lexical.{is_bare_name}
+use Rattle.mf_text.specs.Grammar.{is_bare_name}
 use Rattle.mf_tree.specs.declared.name.Name.{Name}
 use Rattle.mf_tree.specs.declared.name.Identifier.{Identifier}
 use Rattle.mf_tree.specs.declared.expression.Operand.{Operand}

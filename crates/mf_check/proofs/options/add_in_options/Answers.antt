@@ -3,7 +3,8 @@ use Rattle.mf_tree.specs.declared.expression.OptionNode.{OptionNode}
 use Rattle.mf_tree.specs.declared.fault.Kind.TheVariants.{DuplicateOptionName}
 use Rattle.mf_tree.specs.Equality.{is_same_identifier}
 use Rattle.mf_tree.specs.Faults.{faults_where, identifier_text, is_duplicate_option, duplicate_options, Member}
-use Rattle.mf_check.specs.Seen.{values_cmp, AreValuesOf}
+use Rattle.mf_check.specs.Seen.{AreValuesOf}
+use Rattle.mf_check.proofs.SeenKeys.{values_cmp}
 use Rattle.mf_check.proofs.Listed.{added_member, left_from, member_at, passed_member}
 use Rattle.mf_check.proofs.Seen.{identifiers_tied, inserted, seen_more, was_not_there, was_there}
 use Rattle.mf_check.proofs.options.add_in_options.Goals as goal

@@ -4,7 +4,7 @@ use Rattle.mf_tree.specs.declared.expression.OptionNode.{OptionNode}
 use Rattle.mf_tree.specs.declared.fault.Kind.TheVariants.{DuplicateOptionName}
 use Rattle.mf_tree.specs.Equality.{is_same_identifier}
 use Rattle.mf_tree.specs.Faults.{duplicate_options, faults_where, identifier_text, is_duplicate_option, Member}
-use Rattle.mf_check.specs.Seen.{AreIdentifiersSeen}
+use Rattle.mf_check.proofs.SeenKeys.{AreIdentifiersSeen}
 use Rattle.mf_check.proofs.Listed.{left_from}
 use Rattle.mf_check.proofs.options.add_in_options.Given as goal
 

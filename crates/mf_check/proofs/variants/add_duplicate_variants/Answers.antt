@@ -5,7 +5,7 @@ use Rattle.mf_tree.specs.declared.fault.Kind.TheVariants.{DuplicateVariant}
 use Rattle.mf_tree.specs.Equality.{is_same_keys}
 use Rattle.mf_tree.specs.Faults.{faults_where, is_duplicate_variant, duplicate_variants, number_text}
 use Rattle.mf_check.specs.KeyValues.{key_value}
-use Rattle.mf_check.specs.Seen.{key_values_cmp, AreKeyValuesOf}
+use Rattle.mf_check.proofs.SeenKeys.{key_values_cmp, AreKeyValuesOf}
 use Rattle.mf_check.proofs.Listed.{added_member, count_before, left_from, member_at, passed_member}
 use Rattle.mf_check.proofs.Seen.{keys_tied, inserted, seen_more, was_not_there, was_there}
 use Rattle.mf_check.proofs.variants.add_duplicate_variants.Goals as goal

@@ -4,7 +4,7 @@ use Rattle.mf_tree.specs.declared.message.Variant.{Variant}
 use Rattle.mf_tree.specs.declared.fault.Kind.TheVariants.{DuplicateVariant}
 use Rattle.mf_tree.specs.Equality.{is_same_keys}
 use Rattle.mf_tree.specs.Faults.{duplicate_variants, faults_where, is_duplicate_variant, number_text}
-use Rattle.mf_check.specs.Seen.{AreKeysSeen}
+use Rattle.mf_check.proofs.SeenKeys.{AreKeysSeen}
 use Rattle.mf_check.proofs.Listed.{left_from}
 use Rattle.mf_check.proofs.variants.add_duplicate_variants.Given as goal
 

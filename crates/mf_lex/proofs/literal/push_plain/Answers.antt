@@ -1,7 +1,7 @@
 use Rattle.std.proofs.Common.{ap, ◌∙◌, chars}
 use Rattle.std.proofs.lemmas.Result.{on_ok_weaker}
 use Rattle.mf_text.specs.Characters.{is_quoted}
-use Rattle.mf_lex.specs.Reading.{is_next}
+use Rattle.mf_lex.specs.Computed.{is_next}
 use Rattle.mf_lex.proofs.Gathering.{run_stops, run_shortens, with_plain}
 use Rattle.mf_lex.proofs.literal.push_plain.Goals as goal
 

@@ -1,6 +1,6 @@
 use Rattle.std.proofs.Common.{ap, ◌∙◌}
 use Rattle.mf_lex.specs.Cursor.{Place}
-use Rattle.mf_lex.specs.Reading.{gathered}
+use Rattle.mf_lex.specs.Computed.{gathered}
 use Rattle.mf_lex.proofs.Gathering.{gathered_nothing, with_escape}
 use Rattle.mf_lex.proofs.literal.read_quoted.Goals as goal
 

@@ -1,7 +1,7 @@
 -- What is left goes on with the value so far, and not with a character that stands for itself.
 use Rattle.std.proofs.Common.{◌≡◌, false, length}
 use Rattle.mf_text.specs.Characters.{is_quoted}
-use Rattle.mf_lex.specs.Reading.{is_next, gathered, quoted_from}
+use Rattle.mf_lex.specs.Computed.{is_next, gathered, quoted_from}
 use Rattle.mf_lex.proofs.literal.read_quoted.Given as goal
 
 abbrev pub invariant-loop-cursor : goal.invariant-loop-cursor

@@ -1,7 +1,7 @@
 -- The same is left behind the run.
 use Rattle.std.proofs.Common.{◌≡◌, length}
 use Rattle.mf_lex.specs.Classes.{holds}
-use Rattle.mf_lex.specs.Reading.{behind_run}
+use Rattle.mf_lex.specs.Computed.{behind_run}
 use Rattle.mf_lex.proofs.run.pass_run.Given as goal
 
 abbrev pub invariant-loop-class : goal.invariant-loop-class

@@ -1,4 +1,4 @@
-use Rattle.mf_parse.specs.Syntax.{declarations_at}
+use Rattle.mf_parse.specs.Computed.{declarations_at}
 use Rattle.mf_parse.proofs.Bodies.{declaration_step, declaration_stop, declaration_shorter}
 use Rattle.mf_parse.proofs.Texts.{match_some, match_none}
 use Rattle.mf_parse.proofs.declaration.declarations.Goals as goal

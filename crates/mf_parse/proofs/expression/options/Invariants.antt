@@ -1,6 +1,6 @@
 -- Those so far stand in front of what is left.
 use Rattle.std.proofs.Common.{length}
-use Rattle.mf_parse.specs.Syntax.{options_at}
+use Rattle.mf_parse.specs.Computed.{options_at}
 use Rattle.mf_parse.proofs.Gathers.{Gathered}
 use Rattle.mf_parse.proofs.expression.options.Given as goal
 

@@ -1,6 +1,6 @@
-use Rattle.mf_parse.specs.Syntax.{keys_at, further_keys_at}
+use Rattle.mf_parse.specs.Computed.{keys_at, further_keys_at}
 use Rattle.mf_parse.proofs.Bodies.{first_gathered, first_key}
-use Rattle.mf_parse.proofs.Gathers.{key_step, key_stop, key_shorter}
+use Rattle.mf_parse.proofs.Gathers.{keys_spaced, spaced_shorter, spaced_step, spaced_stop}
 use Rattle.mf_parse.proofs.matcher.keys.Goals as goal
 
 pub loop-alloc-init : goal.loop-alloc-init
@@ -10,15 +10,15 @@ loop-alloc-init c =
 
 pub loop-alloc-smaller : goal.loop-alloc-smaller
 loop-alloc-smaller c =
-    key_shorter c.in_ok-key.key c.loop-alloc.cursor.left c.pass_space_before_key.new.cursor.left c.key-in-loop-alloc.new.cursor.left
+    spaced_shorter _ _ _ keys_spaced c.in_ok-key.key c.loop-alloc.cursor.left c.pass_space_before_key.new.cursor.left c.key-in-loop-alloc.new.cursor.left
     c.loop-alloc-test.ensures.0 c.loop-alloc-test.ensures.1 c.in_ok-key.ensures.found
 
 pub loop-alloc-preserved : goal.loop-alloc-preserved
 loop-alloc-preserved c =
-    key_step (keys_at c.args.cursor.now.left) c.in_ok-key.key c.loop-alloc.keys c.push-in-loop-alloc.new.self c.loop-alloc.cursor.left c.pass_space_before_key.new.cursor.left c.key-in-loop-alloc.new.cursor.left
+    spaced_step _ _ _ keys_spaced (keys_at c.args.cursor.now.left) c.in_ok-key.key c.loop-alloc.keys c.push-in-loop-alloc.new.self c.loop-alloc.cursor.left c.pass_space_before_key.new.cursor.left c.key-in-loop-alloc.new.cursor.left
     c.loop-alloc.invariant c.loop-alloc-test.ensures.0 c.loop-alloc-test.ensures.1 c.in_ok-key.ensures.found c.in_ok-push-2.ensures.ok
 
 pub returns-clause-found : goal.returns-clause-found
 returns-clause-found c =
-    key_stop (keys_at c.args.cursor.now.left) c.loop-alloc.keys c.loop-alloc.cursor.left c.pass_space_before_key.new.cursor.left
+    spaced_stop _ _ _ keys_spaced (keys_at c.args.cursor.now.left) c.loop-alloc.keys c.loop-alloc.cursor.left c.pass_space_before_key.new.cursor.left
     c.loop-alloc.invariant c.loop-alloc-test.ensures.0 c.loop-alloc-test.ensures.1

@@ -1,6 +1,6 @@
 -- Those so far stand in front of what is left.
 use Rattle.std.proofs.Common.{length}
-use Rattle.mf_parse.specs.Syntax.{variants_at, further_variants_at}
+use Rattle.mf_parse.specs.Computed.{variants_at, further_variants_at}
 use Rattle.mf_parse.proofs.Gathers.{Gathered}
 use Rattle.mf_parse.proofs.matcher.variants.Given as goal
 

@@ -1,5 +1,5 @@
 use Rattle.std.proofs.Common.{sym, ◌∙◌}
-use Rattle.mf_parse.specs.Syntax.{pattern_at}
+use Rattle.mf_parse.specs.Computed.{pattern_at}
 use Rattle.mf_parse.proofs.Texts.{piece_stop}
 use Rattle.mf_parse.proofs.pattern.pattern.Goals as goal
 

@@ -1,6 +1,6 @@
 -- The pieces so far stand in front of what is left.
 use Rattle.std.proofs.Common.{length}
-use Rattle.mf_parse.specs.Syntax.{pattern_at}
+use Rattle.mf_parse.specs.Computed.{pattern_at}
 use Rattle.mf_parse.proofs.Gathers.{Gathered}
 use Rattle.mf_parse.proofs.pattern.pattern.Given as goal
 

@@ -1,6 +1,6 @@
 use Rattle.std.proofs.Common.{ap, sym, ◌∙◌}
 use Rattle.mf_tree.specs.declared.pattern.Piece.TheVariants as Pieces
-use Rattle.mf_parse.specs.Syntax.{made, onto, pattern_at, text_ends}
+use Rattle.mf_parse.specs.Computed.{made, onto, pattern_at, text_ends}
 use Rattle.mf_parse.proofs.Texts.{passed_nothing, passed_run, passed_escape, passed_stop, passed_some, passed_wrong}
 use Rattle.mf_parse.proofs.pattern.text.Goals as goal
 

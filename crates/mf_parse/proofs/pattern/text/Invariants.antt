@@ -1,7 +1,7 @@
 -- The text so far was passed, and no character that stands for itself is next.
 use Rattle.std.proofs.Common.{◌≡◌, false, length}
 use Rattle.mf_text.specs.Characters.{is_text}
-use Rattle.mf_lex.specs.Reading.{is_next}
+use Rattle.mf_lex.specs.Computed.{is_next}
 use Rattle.mf_parse.proofs.Texts.{Passed}
 use Rattle.mf_parse.proofs.pattern.text.Given as goal
 

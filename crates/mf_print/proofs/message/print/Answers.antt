@@ -1,6 +1,6 @@
 use Rattle.std.proofs.Common.{◌≡◌, sym, subst}
 use Rattle.std.proofs.lemmas.Result.{IfOk-weaker}
-use Rattle.mf_tree.specs.Spells.{SpellsMessage}
+use Rattle.mf_tree.specs.Grammar.{SpellsMessage}
 use Rattle.mf_tree.specs.Canonical.{canonical}
 use Rattle.mf_print.proofs.Messages.{message}
 use Rattle.mf_print.proofs.message.print.Goals as goal

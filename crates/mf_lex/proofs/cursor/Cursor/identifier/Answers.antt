@@ -1,6 +1,6 @@
 use Rattle.std.proofs.lemmas.Result.{IfOk-weaker}
 use Rattle.mf_lex.specs.Readers.{Finds, Reads, Shortens, SpellsIdent}
-use Rattle.mf_lex.specs.Reading.{identifier_at}
+use Rattle.mf_lex.specs.Computed.{identifier_at}
 use Rattle.mf_lex.proofs.Readings.{identifier_reads}
 use Rattle.mf_lex.proofs.Shorter.{identifier_shortens}
 use Rattle.mf_lex.proofs.cursor.Cursor.identifier.Goals as goal

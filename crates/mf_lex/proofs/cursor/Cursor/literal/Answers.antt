@@ -1,7 +1,7 @@
 use Rattle.std.proofs.lemmas.Result.{IfOk-weaker}
-use Rattle.mf_text.specs.Lexical.{SpellsLiteral}
+use Rattle.mf_text.specs.Grammar.{SpellsLiteral}
 use Rattle.mf_lex.specs.Readers.{Finds, Reads, Shortens}
-use Rattle.mf_lex.specs.Reading.{literal_at}
+use Rattle.mf_lex.specs.Computed.{literal_at}
 use Rattle.mf_lex.proofs.Readings.{literal_reads}
 use Rattle.mf_lex.proofs.Shorter.{literal_shortens}
 use Rattle.mf_lex.proofs.cursor.Cursor.literal.Goals as goal

@@ -1,7 +1,7 @@
 use Rattle.std.proofs.lemmas.Result.{IfOk-weaker}
-use Rattle.mf_text.specs.Lexical.{SpellsName}
+use Rattle.mf_text.specs.Grammar.{SpellsName}
 use Rattle.mf_lex.specs.Readers.{Finds, Reads, Shortens}
-use Rattle.mf_lex.specs.Reading.{name_at}
+use Rattle.mf_lex.specs.Computed.{name_at}
 use Rattle.mf_lex.proofs.Readings.{name_reads}
 use Rattle.mf_lex.proofs.Shorter.{name_shortens}
 use Rattle.mf_lex.proofs.cursor.Cursor.name.Goals as goal

@@ -1,6 +1,6 @@
 use Rattle.std.proofs.Common.{ap, ◌∙◌}
 use Rattle.mf_text.specs.Characters.{is_text}
-use Rattle.mf_lex.specs.Reading.{is_next}
+use Rattle.mf_lex.specs.Computed.{is_next}
 use Rattle.mf_lex.proofs.Gathering.{run_shortens, run_stops}
 use Rattle.mf_lex.proofs.cursor.Cursor.text_run.Goals as goal
 

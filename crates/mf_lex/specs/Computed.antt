@@ -1,4 +1,4 @@
--- What each reader takes, computed from the characters that are left: what they spell, and what is left behind it.
+-- For private clauses: what each reader takes, computed from the characters that are left: what they spell, and what is left behind it.
 use Rattle.std.specs.Prelude.{ℕ, Bool, true, false, ◌==◌, List, [], ◌∷◌, ◌++◌, Option, Some, None, if◌then◌else◌}
 use Rattle.std.specs.Option.{option_map, option_and_then}
 use Rattle.mf_text.specs.Characters.{is_ws, is_bidi, is_space, is_name_start, is_name_char, is_quoted, is_escapable}

@@ -1,12 +1,13 @@
--- What each production takes of the characters that are left: the node, and what is left behind it; nothing where no text
--- of the production is there. Each is decided by the characters that come next, so nothing is read twice.
+-- For private clauses: what each production takes of the characters that are left, computed: the node, and what is left
+-- behind it, or nothing where they don't go on as the production asks. Each choice is made by the characters that come next
+-- and is never taken back; the white space before them may be passed up to three times for it.
 use Rattle.std.specs.Prelude.{ℕ, zero, suc, Bool, true, false, not, ◌==◌, ◌&&◌, ◌||◌, List, [], ◌∷◌, length, codes, Option, Some, None, if◌then◌else◌}
 use Rattle.std.specs.Option.{option_map, option_and_then}
 use Rattle.mf_text.specs.Characters.{is_ws, is_name_start, is_text}
-use Rattle.mf_lex.specs.Reading.{is_next, one_at, behind_run, after_space, has_space, escaped, name_at, identifier_at, literal_at}
+use Rattle.mf_lex.specs.Computed.{is_next, one_at, behind_run, after_space, has_space, escaped, name_at, identifier_at, literal_at}
 use Rattle.mf_lex.specs.declared.ident.Ident.{Ident}
 use Rattle.mf_tree.specs.Names.{named}
-use Rattle.mf_tree.specs.Spells.{Item, character, placeholder, pattern_of}
+use Rattle.mf_tree.specs.Grammar.{Item, character, placeholder, pattern_of}
 use Rattle.mf_tree.specs.declared.name.Name.{Name}
 use Rattle.mf_tree.specs.declared.name.Identifier.{Identifier}
 use Rattle.mf_tree.specs.declared.expression.Operand.{Operand}

@@ -1,11 +1,11 @@
--- The grammar: which node a text spells, one case for each production, in the order and with the names of the standard
--- (Unicode TS 35, Part 9, "Message syntax"). The lexical rules `o`, `s`, `escaped-char`, `name`, `identifier` and
+-- The grammar: which node a text spells, one case for each production, with the names of the standard (Unicode TS 35,
+-- Part 9, "Message syntax"), from the smallest up to the whole message. The lexical rules `o`, `s`, `escaped-char`, `name`, `identifier` and
 -- `literal` stand in mf_text.
 use Rattle.std.specs.Prelude.{◌≡◌, ℕ, IsTrue, List, [], ◌∷◌, ◌++◌, map, codes, Option, Some, None, ◌⊎◌}
 use Rattle.std.specs.Option.{option_map}
 use Rattle.mf_text.specs.Characters.{is_text, is_simple_start}
 use Rattle.mf_text.specs.Languages.{Language, Word, ◌⋅◌, ◌∣◌, Maybe, Each}
-use Rattle.mf_text.specs.Lexical.{O, S, SpellsEscapedChar, SpellsName, SpellsIdentifier, SpellsLiteral}
+use Rattle.mf_text.specs.Grammar.{O, S, SpellsEscapedChar, SpellsName, SpellsIdentifier, SpellsLiteral}
 use Rattle.mf_tree.specs.declared.name.Name.{Name}
 use Rattle.mf_tree.specs.declared.name.Identifier.{Identifier}
 use Rattle.mf_tree.specs.declared.expression.Operand.{Operand}
