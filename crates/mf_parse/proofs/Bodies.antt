@@ -71,4 +71,3 @@ match_is (name ∷ names) variants cs a left some space at finds = cond-true (ha
 pub matcher_found : (selectors : List Name) (variants : List Variant) (cs p a left : List ℕ) → selectors_at cs ≡ Some (selectors, p) → selectors ≢ [] → has_space p ≡ true → a ≡ after_space p → variants_at a ≡ Some (variants, left) → matcher_at cs ≡ Some (BodyKinds.Match selectors variants, left)
 unfolding matcher_at
 matcher_found selectors variants cs p a left first some space at finds = followed_by _ _ selectors p first ∙ match_is selectors variants p a left some space at finds
-

@@ -42,4 +42,3 @@ pub variants_none_1 : (cs : List ℕ) → variant_at cs ≡ None → variants_at
 unfolding variants_at
 variants_none_1 cs h1 =
     followed_none _ _ h1
-

@@ -65,4 +65,3 @@ sign_is_at sign cs a at = ap (is_at sign) at ∙ eq-eqb sign sign refl
 pub star_found : (cs left : List ℕ) → cs ≡ 0x2A ∷ left → key_at cs ≡ Some (Keys.Star, left)
 unfolding key_at
 star_found cs left at = cond-true _ _ _ (sign_is_at 0x2A cs left at) ∙ placed_by _ _ left (ap (one_at 0x2A) at ∙ one_next 0x2A left)
-

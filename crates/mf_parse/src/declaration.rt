@@ -5,7 +5,7 @@ ghost use Rattle.mf_parse.specs.Computed.{begins_declaration, declaration_at, de
 use crate::error::ParseError;
 use crate::expression::{expression, rest_of_expression, variable};
 use crate::pattern::pass_word;
-use crate::spaces::{pass_equals, pass_opening};
+use crate::spaces::{equals, opening_brace};
 use mf_lex::Cursor;
 use mf_tree::{Declaration, Declarations, Name, Operand};
 use std::alloc::Global;
@@ -17,9 +17,7 @@ fn input(alloc: Global, cursor: &mut Cursor) -> Result<Declaration, ParseError>
     ensures none { IsErrOf result ParseError.Syntax → input_at cursor.old.left ≡ None }
 {
     cursor.o();
-    if !pass_opening(cursor) {
-        return Err(ParseError::Syntax);
-    }
+    opening_brace(cursor)?;
     let name = variable(alloc, cursor)?;
     let operand = name.clone()?;
     let expression = rest_of_expression(alloc, cursor, Operand::Variable(operand))?;
@@ -33,9 +31,7 @@ fn local_rest(alloc: Global, cursor: &mut Cursor) -> Result<Declaration, ParseEr
     ensures none { IsErrOf result ParseError.Syntax → rest_of_local cursor.old.left ≡ None }
 {
     let name = variable(alloc, cursor)?;
-    if !pass_equals(cursor) {
-        return Err(ParseError::Syntax);
-    }
+    equals(cursor)?;
     let expression = expression(alloc, cursor)?;
     Ok(Declaration::Local { name, expression })
 }
@@ -49,8 +45,7 @@ fn local(alloc: Global, cursor: &mut Cursor) -> Result<Declaration, ParseError>
     if !cursor.s() {
         return Err(ParseError::Syntax);
     }
-    let declaration = local_rest(alloc, cursor)?;
-    Ok(declaration)
+    local_rest(alloc, cursor)
 }
 
 /// `declaration`, if one is next.

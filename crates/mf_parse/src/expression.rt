@@ -7,7 +7,8 @@ ghost use Rattle.mf_parse.specs.Computed.{identifier_of as as_identifier, attrib
 
 use crate::error::ParseError;
 use crate::spaces::{
-    is_next, pass_closing, pass_equals, pass_opening, pass_space_before, pass_space_before_name,
+    closing_brace, equals, expect, is_next, opening_brace, pass_space_before,
+    pass_space_before_name,
 };
 use mf_lex::{Cursor, Ident};
 use mf_text::Text;
@@ -68,9 +69,7 @@ pub fn variable(alloc: Global, cursor: &mut Cursor) -> Result<Name, ParseError>
     ensures found { IfOk result (λ name. variable_at cursor.old.left ≡ Some (name, cursor.new.left)) }
     ensures none { IsErrOf result ParseError.Syntax → variable_at cursor.old.left ≡ None }
 {
-    if !cursor.one('$') {
-        return Err(ParseError::Syntax);
-    }
+    expect(cursor, '$')?;
     let spelled = bare_name(alloc, cursor)?;
     let name = Name::new(alloc, spelled)?;
     Ok(name)
@@ -114,9 +113,7 @@ fn option(alloc: Global, cursor: &mut Cursor) -> Result<OptionNode, ParseError>
     ensures none { IsErrOf result ParseError.Syntax → option_at cursor.old.left ≡ None }
 {
     let name = identifier(alloc, cursor)?;
-    if !pass_equals(cursor) {
-        return Err(ParseError::Syntax);
-    }
+    equals(cursor)?;
     let value = option_value(alloc, cursor)?;
     Ok(OptionNode { name, value })
 }
@@ -146,9 +143,7 @@ fn attribute_value(alloc: Global, cursor: &mut Cursor) -> Result<Option<Text>, P
     if !is_next(&ahead, '=') {
         return Ok(None);
     }
-    if !pass_equals(cursor) {
-        return Err(ParseError::Syntax);
-    }
+    equals(cursor)?;
     let literal = literal(alloc, cursor)?;
     Ok(Some(literal))
 }
@@ -159,9 +154,7 @@ fn attribute(alloc: Global, cursor: &mut Cursor) -> Result<Attribute, ParseError
     ensures found { IfOk result (λ attribute. attribute_at cursor.old.left ≡ Some (attribute, cursor.new.left)) }
     ensures none { IsErrOf result ParseError.Syntax → attribute_at cursor.old.left ≡ None }
 {
-    if !cursor.one('@') {
-        return Err(ParseError::Syntax);
-    }
+    expect(cursor, '@')?;
     let name = identifier(alloc, cursor)?;
     let value = attribute_value(alloc, cursor)?;
     Ok(Attribute { name, value })
@@ -187,9 +180,7 @@ fn function(alloc: Global, cursor: &mut Cursor) -> Result<Call, ParseError>
     ensures found { IfOk result (λ call. function_at cursor.old.left ≡ Some (call, cursor.new.left)) }
     ensures none { IsErrOf result ParseError.Syntax → function_at cursor.old.left ≡ None }
 {
-    if !cursor.one(':') {
-        return Err(ParseError::Syntax);
-    }
+    expect(cursor, ':')?;
     let name = identifier(alloc, cursor)?;
     let options = options(alloc, cursor)?;
     Ok(Call { name, options })
@@ -215,9 +206,7 @@ pub fn last_attributes(alloc: Global, cursor: &mut Cursor) -> Result<Attributes,
     ensures none { IsErrOf result ParseError.Syntax → last_attributes_at cursor.old.left ≡ None }
 {
     let attributes = attributes(alloc, cursor)?;
-    if !pass_closing(cursor) {
-        return Err(ParseError::Syntax);
-    }
+    closing_brace(cursor)?;
     Ok(attributes)
 }
 
@@ -296,8 +285,6 @@ pub fn expression(alloc: Global, cursor: &mut Cursor) -> Result<Expression, Pars
     ensures found { IfOk result (λ expression. expression_at cursor.old.left ≡ Some (expression, cursor.new.left)) }
     ensures none { IsErrOf result ParseError.Syntax → expression_at cursor.old.left ≡ None }
 {
-    if !pass_opening(cursor) {
-        return Err(ParseError::Syntax);
-    }
+    opening_brace(cursor)?;
     inner_expression(alloc, cursor)
 }

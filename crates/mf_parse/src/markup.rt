@@ -4,7 +4,7 @@ ghost use Rattle.mf_parse.specs.Computed.{closing_at, form_at, inner_placeholder
 
 use crate::error::ParseError;
 use crate::expression::{attributes, identifier, inner_expression, last_attributes, options};
-use crate::spaces::pass_opening;
+use crate::spaces::{expect, opening_brace};
 use mf_lex::Cursor;
 use mf_tree::{Form, Markup, Piece};
 use std::alloc::Global;
@@ -16,16 +16,13 @@ fn form(cursor: &mut Cursor) -> Result<Form, ParseError>
     ensures none { IsErrOf result ParseError.Syntax → form_at cursor.old.left ≡ None }
 {
     cursor.o();
-    if cursor.one('/') {
-        if !cursor.one('}') {
-            return Err(ParseError::Syntax);
-        }
-        return Ok(Form::Standalone);
-    }
-    if !cursor.one('}') {
-        return Err(ParseError::Syntax);
-    }
-    Ok(Form::Start)
+    let form = if cursor.one('/') {
+        Form::Standalone
+    } else {
+        Form::Start
+    };
+    expect(cursor, '}')?;
+    Ok(form)
 }
 
 /// Markup behind its `#`.
@@ -70,15 +67,12 @@ fn inner_placeholder(alloc: Global, cursor: &mut Cursor) -> Result<Piece, ParseE
     ensures none { IsErrOf result ParseError.Syntax → inner_placeholder_at cursor.old.left ≡ None }
 {
     if cursor.one('#') {
-        let markup = opening(alloc, cursor)?;
-        return Ok(Piece::Markup(markup));
+        return Ok(Piece::Markup(opening(alloc, cursor)?));
     }
     if cursor.one('/') {
-        let markup = closing(alloc, cursor)?;
-        return Ok(Piece::Markup(markup));
+        return Ok(Piece::Markup(closing(alloc, cursor)?));
     }
-    let expression = inner_expression(alloc, cursor)?;
-    Ok(Piece::Expression(expression))
+    Ok(Piece::Expression(inner_expression(alloc, cursor)?))
 }
 
 /// `placeholder`
@@ -87,9 +81,6 @@ pub fn placeholder(alloc: Global, cursor: &mut Cursor) -> Result<Piece, ParseErr
     ensures found { IfOk result (λ piece. placeholder_at cursor.old.left ≡ Some (piece, cursor.new.left)) }
     ensures none { IsErrOf result ParseError.Syntax → placeholder_at cursor.old.left ≡ None }
 {
-    if !pass_opening(cursor) {
-        return Err(ParseError::Syntax);
-    }
-    let piece = inner_placeholder(alloc, cursor)?;
-    Ok(piece)
+    opening_brace(cursor)?;
+    inner_placeholder(alloc, cursor)
 }

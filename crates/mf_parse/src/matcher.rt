@@ -20,8 +20,7 @@ fn key(alloc: Global, cursor: &mut Cursor) -> Result<Key, ParseError>
     if cursor.one('*') {
         return Ok(Key::Star);
     }
-    let value = literal(alloc, cursor)?;
-    Ok(Key::Literal(value))
+    Ok(Key::Literal(literal(alloc, cursor)?))
 }
 
 /// Passes the space before a further key, where there is white space in it and no brace behind it.

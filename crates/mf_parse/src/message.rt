@@ -42,14 +42,12 @@ fn complex_body(alloc: Global, cursor: &mut Cursor) -> Result<Body, ParseError>
     ensures none { IsErrOf result ParseError.Syntax → body_at cursor.old.left ≡ None }
 {
     if is_next(cursor, '{') {
-        let pattern = quoted_pattern(alloc, cursor)?;
-        return Ok(Body::Pattern(pattern));
+        return Ok(Body::Pattern(quoted_pattern(alloc, cursor)?));
     }
     if !pass_word(cursor, &['.', 'm', 'a', 't', 'c', 'h']) {
         return Err(ParseError::Syntax);
     }
-    let body = matcher(alloc, cursor)?;
-    Ok(body)
+    matcher(alloc, cursor)
 }
 
 /// Whether nothing is left.

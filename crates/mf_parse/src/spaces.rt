@@ -1,9 +1,10 @@
 //! Spaces, and the characters that they stand before.
-ghost use Rattle.std.specs.Prelude.{◌≡◌, ◌==◌, true, false, Some, None, MatchBool};
+ghost use Rattle.std.specs.Prelude.{◌≡◌, ◌==◌, true, false, Some, None, IsErrOf, MatchBool, OnOk};
 ghost use Rattle.mf_text.specs.Characters.{is_name_start as has_name_start};
-ghost use Rattle.mf_lex.specs.Computed.{after_space, is_next as comes_next};
+ghost use Rattle.mf_lex.specs.Computed.{after_space, is_next as comes_next, one_at};
 ghost use Rattle.mf_parse.specs.Computed.{behind_brace, behind_equals, inside, is_at, is_spaced};
 
+use crate::error::ParseError;
 use mf_lex::Cursor;
 use mf_text::is_name_start;
 
@@ -55,36 +56,47 @@ fn is_name_next(cursor: &Cursor) -> bool
     }
 }
 
-/// Passes an equals sign with the space around it.
+/// Passes a character, which must be the next one.
+pub fn expect(cursor: &mut Cursor, sign: char) -> Result<(), ParseError>
+    ensures found { OnOk result (one_at sign cursor.old.left ≡ Some cursor.new.left) }
+    ensures none { IsErrOf result ParseError.Syntax → one_at sign cursor.old.left ≡ None }
+{
+    if cursor.one(sign) {
+        Ok(())
+    } else {
+        Err(ParseError::Syntax)
+    }
+}
+
+/// `o "=" o`
 #[tactic(auto, unfolding(crate::specs::Computed::behind_equals))]
-pub fn pass_equals(cursor: &mut Cursor) -> bool
-    ensures { MatchBool result (behind_equals cursor.old.left ≡ Some cursor.new.left) (behind_equals cursor.old.left ≡ None) }
+pub fn equals(cursor: &mut Cursor) -> Result<(), ParseError>
+    ensures found { OnOk result (behind_equals cursor.old.left ≡ Some cursor.new.left) }
+    ensures none { IsErrOf result ParseError.Syntax → behind_equals cursor.old.left ≡ None }
 {
     cursor.o();
-    if !cursor.one('=') {
-        return false;
-    }
+    expect(cursor, '=')?;
     cursor.o();
-    true
+    Ok(())
 }
 
-/// Passes a closing brace with the space before it.
+/// `o "}"`
 #[tactic(auto, unfolding(crate::specs::Computed::behind_brace))]
-pub fn pass_closing(cursor: &mut Cursor) -> bool
-    ensures { MatchBool result (behind_brace cursor.old.left ≡ Some cursor.new.left) (behind_brace cursor.old.left ≡ None) }
+pub fn closing_brace(cursor: &mut Cursor) -> Result<(), ParseError>
+    ensures found { OnOk result (behind_brace cursor.old.left ≡ Some cursor.new.left) }
+    ensures none { IsErrOf result ParseError.Syntax → behind_brace cursor.old.left ≡ None }
 {
     cursor.o();
-    cursor.one('}')
+    expect(cursor, '}')
 }
 
-/// Passes an opening brace with the space behind it.
+/// `"{" o`
 #[tactic(auto, unfolding(crate::specs::Computed::inside))]
-pub fn pass_opening(cursor: &mut Cursor) -> bool
-    ensures { MatchBool result (inside cursor.old.left ≡ Some cursor.new.left) (inside cursor.old.left ≡ None) }
+pub fn opening_brace(cursor: &mut Cursor) -> Result<(), ParseError>
+    ensures found { OnOk result (inside cursor.old.left ≡ Some cursor.new.left) }
+    ensures none { IsErrOf result ParseError.Syntax → inside cursor.old.left ≡ None }
 {
-    if !cursor.one('{') {
-        return false;
-    }
+    expect(cursor, '{')?;
     cursor.o();
-    true
+    Ok(())
 }
