@@ -1,5 +1,5 @@
 -- The characters that were passed, and those that are left.
-use Rattle.std.proofs.Common.{◌≡◌, ℕ, ◌-◌, ◌≤◌, List, [], ◌∷◌, ◌++◌, ap, sym, ◌∙◌, subst, length, take, chars, arith, append_assoc, length-append}
+use Rattle.std.proofs.Common.{◌≡◌, ℕ, ◌-◌, ◌≤◌, List, ◌++◌, ap, sym, ◌∙◌, subst, length, take, chars, arith, append_assoc, length-append}
 use Rattle.std.proofs.Math.Seq.{take-append_seam}
 use Rattle.std.proofs.lemmas.Str.{chars-append, encodes-chars, IsUtf8-take, IsCharBoundary-at_seam, encodes-append}
 use Rattle.std.specs.Prelude.{encode_utf8, encode_utf8_all}

@@ -1,12 +1,11 @@
 -- What is found by the functions is read by the rules.
-use Rattle.std.proofs.Common.{◌≡◌, ℕ, Bool, true, false, Option, Some, None, List, [], ◌∷◌, sym, subst, MatchBool}
-use Rattle.mf_text.specs.Languages.{Word}
+use Rattle.std.proofs.Common.{◌≡◌, ℕ, Bool, true, false, Option, Some, None, List, sym, subst, MatchBool}
 use Rattle.mf_text.specs.Grammar.{O, S, SpellsEscapedChar, SpellsName, SpellsLiteral}
 use Rattle.mf_lex.specs.declared.ident.Ident.{Ident}
 use Rattle.mf_lex.specs.Cursor.{Place}
-use Rattle.mf_lex.specs.Computed.{one_at, after_space, has_space, escape_at, name_at, identifier_at, literal_at}
+use Rattle.mf_lex.specs.Computed.{after_space, has_space, escape_at, name_at, identifier_at, literal_at}
 use Rattle.mf_lex.specs.Readers.{Finds, Reads, Passes, SpellsIdent}
-use Rattle.mf_lex.proofs.Escapes.{one_found, one_none, escape_found, escape_none}
+use Rattle.mf_lex.proofs.Escapes.{escape_found, escape_none}
 use Rattle.mf_lex.proofs.Identifiers.{identifier_found, identifier_none}
 use Rattle.mf_lex.proofs.Literals.{literal_found, literal_none}
 use Rattle.mf_lex.proofs.Names.{name_found, name_none}

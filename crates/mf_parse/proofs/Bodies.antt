@@ -1,8 +1,6 @@
 -- Declarations, keys, variants and matchers, step by step.
-use Rattle.std.proofs.Common.{◌≡◌, ◌≢◌, ◌<◌, ℕ, true, false, ◌==◌, ◌&&◌, ◌||◌, Some, None, List, [], ◌∷◌, ◌++◌, refl, ap, sym, ◌∙◌, inl, inr, length}
-use Rattle.std.proofs.lemmas.Bool.{cases_Bool, cond-true, cond-false, or_left, or_right}
-use Rattle.std.specs.Option.{option_and_then}
-use Rattle.std.specs.Prelude.{codes}
+use Rattle.std.proofs.Common.{◌≡◌, ◌≢◌, ◌<◌, ℕ, true, false, Some, None, List, [], ◌∷◌, ◌++◌, refl, ap, sym, ◌∙◌, length}
+use Rattle.std.proofs.lemmas.Bool.{cond-true}
 use Rattle.mf_lex.specs.Computed.{after_space, has_space}
 use Rattle.mf_tree.specs.declared.name.Name.{Name}
 use Rattle.mf_tree.specs.declared.expression.Expression.{Expression}
@@ -13,10 +11,9 @@ use Rattle.mf_tree.specs.declared.message.Declaration.{Declaration}
 use Rattle.mf_tree.specs.declared.expression.Operand.TheVariants as Operands
 use Rattle.mf_tree.specs.declared.message.Declaration.TheVariants as Declarations
 use Rattle.mf_tree.specs.declared.message.Body.TheVariants as BodyKinds
-use Rattle.mf_parse.specs.Computed.{Found, made, onto, word_at, is_word_at, inside, variable_at, rest_of_expression_at, input_at, local_rest, local_at, begins_declaration, declaration_at, spaced_declaration_at, declarations_at, key_at, begins_key, further_keys_at, keys_at, variant_node, quoted_pattern_at, variant_at, begins_variant, further_variants_at, variants_at, selectors_at, match_at, matcher_at}
-use Rattle.mf_parse.proofs.Finding.{followed_by, followed_none, behind_by, made_by, made_none}
-use Rattle.mf_parse.proofs.Heads.{word_is}
-use Rattle.mf_parse.proofs.CompleteMessages.{is_word_next, declarations_shorten}
+use Rattle.mf_parse.specs.Computed.{Found, made, onto, inside, variable_at, rest_of_expression_at, input_at, begins_declaration, declaration_at, spaced_declaration_at, declarations_at, key_at, further_keys_at, keys_at, variant_node, quoted_pattern_at, variant_at, further_variants_at, variants_at, selectors_at, match_at, matcher_at}
+use Rattle.mf_parse.proofs.Finding.{followed_by, followed_none, made_by}
+use Rattle.mf_parse.proofs.CompleteMessages.{declarations_shorten}
 use Rattle.mf_parse.proofs.Gathers.{Gathered, gathered_step, gathered_stop, gathered_none}
 use Rattle.mf_parse.proofs.Chains.{input_found, variant_found}
 

@@ -1,27 +1,18 @@
 -- What is found where there is a choice, and where nothing is.
-use Rattle.std.proofs.Common.{◌≡◌, ℕ, true, false, ◌==◌, Option, Some, None, List, [], ◌∷◌, refl, ap, sym, ◌∙◌, inl, inr}
-use Rattle.std.proofs.lemmas.Bool.{cases_Bool, cond-true, cond-false, eq-eqb}
-use Rattle.mf_lex.specs.Computed.{one_at, after_space, name_at, literal_at}
+use Rattle.std.proofs.Common.{◌≡◌, ℕ, true, Option, Some, None, List, ◌∷◌, refl, ap, sym, ◌∙◌}
+use Rattle.std.proofs.lemmas.Bool.{cond-true, eq-eqb}
+use Rattle.mf_lex.specs.Computed.{one_at, after_space, name_at}
 use Rattle.mf_tree.specs.Names.{named}
 use Rattle.mf_tree.specs.declared.name.Name.{Name}
 use Rattle.mf_tree.specs.declared.name.Identifier.{Identifier}
-use Rattle.mf_tree.specs.declared.expression.Expression.{Expression}
-use Rattle.mf_tree.specs.declared.expression.Call.{Call}
-use Rattle.mf_tree.specs.declared.pattern.Piece.{Piece}
-use Rattle.mf_tree.specs.declared.expression.Operand.TheVariants as Operands
-use Rattle.mf_tree.specs.declared.pattern.Form.TheVariants as Forms
-use Rattle.mf_tree.specs.declared.expression.OptionValue.TheVariants as OptionValues
-use Rattle.mf_tree.specs.declared.pattern.Piece.TheVariants as Pieces
 use Rattle.mf_tree.specs.declared.message.Key.TheVariants as Keys
-use Rattle.mf_tree.specs.declared.message.Body.TheVariants as Bodies
-use Rattle.mf_tree.specs.declared.pattern.Markup.{Markup}
 use Rattle.mf_lex.specs.declared.ident.Ident.{Ident}
-use Rattle.std.specs.Option.{option_map, option_and_then}
+use Rattle.std.specs.Option.{option_map}
 use Rattle.mf_lex.specs.Computed.{identifier_at}
-use Rattle.mf_parse.specs.Computed.{is_at, is_spaced, identifier_of, of_variable_at, of_literal_at, inner_expression_at, inner_placeholder_at, placeholder_at, body_at}
-use Rattle.mf_parse.specs.Computed.{identifier_node_at, variable_at, option_value_at, behind_equals, attribute_value_at, function_at, spaced_function_at, behind_brace, rest_of_expression_at, of_function_at, inside, expression_at, form_at, opening_at, closing_at, quoted_pattern_at, key_at}
+use Rattle.mf_parse.specs.Computed.{is_at, identifier_of}
+use Rattle.mf_parse.specs.Computed.{identifier_node_at, variable_at, behind_equals, inside, key_at}
 use Rattle.mf_lex.proofs.Escapes.{one_next}
-use Rattle.mf_parse.proofs.Finding.{followed_by, followed_none, behind_by, behind_none, made_by, made_none, placed_by, placed_none}
+use Rattle.mf_parse.proofs.Finding.{behind_by, made_by, made_none, placed_by}
 
 with_parts : Option Name → Name → Identifier
 with_parts namespace name = record { namespace = namespace; name = name }

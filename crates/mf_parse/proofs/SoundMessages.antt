@@ -3,7 +3,7 @@ use Rattle.std.proofs.Common.{◌≡◌, ℕ, Bool, true, false, ◌==◌, ◌&&
 use Rattle.std.proofs.lemmas.Bool.{cases_Bool, cond-true, cond-false, and_parts, and_from, eqb-true, eqb-false, leb-true, false≢true}
 use Rattle.std.proofs.lemmas.List.{append-nil}
 use Rattle.std.specs.Prelude.{codes, nat_le, if◌then◌else◌}
-use Rattle.mf_text.specs.Characters.{is_in, is_ws, is_bidi, is_space, is_text, is_simple_start, is_escapable}
+use Rattle.mf_text.specs.Characters.{is_in, is_ws, is_text, is_simple_start, is_escapable}
 use Rattle.mf_text.specs.Languages.{Language, Word, ◌⋅◌, Maybe, Each, Begins}
 use Rattle.mf_text.specs.Grammar.{O, S}
 use Rattle.mf_text.proofs.Classes.{ws_is_space}

@@ -10,11 +10,11 @@ use Rattle.mf_lex.proofs.Runs.{run_more, run_ends, behind_more, behind_ends}
 use Rattle.mf_tree.specs.Grammar.{character, placeholder, onto_text, pattern_of, SpellsPlaceholder}
 use Rattle.mf_tree.specs.declared.pattern.Piece.{Piece}
 use Rattle.mf_tree.specs.declared.pattern.Piece.TheVariants as Pieces
-use Rattle.mf_parse.specs.Computed.{Found, made, onto, many, is_at, inside, inner_placeholder_at, placeholder_at, item_at, goes_on, text_ends, pattern_at, word_at}
+use Rattle.mf_parse.specs.Computed.{Found, made, onto, many, is_at, inside, inner_placeholder_at, placeholder_at, item_at, goes_on, text_ends, pattern_at}
 use Rattle.mf_parse.proofs.Finding.{made_by, made_none, behind_none, many_stop, many_some, many_none}
 use Rattle.mf_parse.proofs.Sound.{placeholder_sound}
 use Rattle.mf_parse.proofs.CompleteMessages.{items_shorten}
-use Rattle.mf_parse.proofs.Gathers.{Gathered, gathered_more}
+use Rattle.mf_parse.proofs.Gathers.{Gathered}
 
 -- the characters of a text in front of pieces
 abbrev pub onto_all : List ℕ → List Piece → List Piece

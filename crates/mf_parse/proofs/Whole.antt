@@ -1,18 +1,15 @@
 -- Whole messages, step by step.
 use Rattle.std.proofs.Common.{◌≡◌, ◌≢◌, ℕ, true, false, ◌==◌, not, Option, Some, None, List, [], ◌∷◌, refl, ap, sym, ◌∙◌}
-use Rattle.std.proofs.lemmas.Bool.{cond-true, cond-false}
-use Rattle.std.specs.Prelude.{codes, slice_get}
+use Rattle.std.specs.Prelude.{slice_get}
 use Rattle.mf_text.specs.Characters.{is_ws}
 use Rattle.mf_lex.specs.Computed.{after_space}
 use Rattle.mf_lex.proofs.Runs.{behind_more, behind_ends}
-use Rattle.mf_tree.specs.declared.pattern.Piece.{Piece}
 use Rattle.mf_tree.specs.declared.message.Declaration.{Declaration}
 use Rattle.mf_tree.specs.declared.message.Body.{Body}
 use Rattle.mf_tree.specs.declared.message.Message.{Message}
-use Rattle.mf_tree.specs.declared.message.Body.TheVariants as BodyKinds
 use Rattle.mf_parse.specs.Parsing.{IsSource}
-use Rattle.mf_parse.specs.Computed.{followed, word_at, is_at, pattern_at, declarations_at, matcher_at, body_at, message_node, whole, complex_at, begins_simply, simple_at, or_else, message_of}
-use Rattle.mf_parse.proofs.Finding.{followed_by, followed_none, behind_by, behind_none, made_by, made_none}
+use Rattle.mf_parse.specs.Computed.{followed, is_at, declarations_at, body_at, message_node, whole, complex_at, begins_simply, simple_at, or_else, message_of}
+use Rattle.mf_parse.proofs.Finding.{followed_by}
 use Rattle.mf_parse.proofs.Messages.{none_spelled}
 
 -- nothing is left

@@ -1,6 +1,6 @@
 -- What is computed for a source is what it compiles to, and nothing else is.
-use Rattle.std.proofs.Common.{◌≡◌, ◌≢◌, ◌<◌, ◌≤◌, ℕ, true, false, Option, Some, None, List, [], ◌∷◌, length, refl, ap, sym, ◌∙◌, subst, inl, inr}
-use Rattle.std.proofs.lemmas.Bool.{cases_Bool, cond-true, cond-false, le-leb, leb-true, lt-leb, leb-false}
+use Rattle.std.proofs.Common.{◌≡◌, ◌≤◌, ℕ, Option, Some, None, List, [], ◌∷◌, length, refl, sym, ◌∙◌, subst, inl, inr}
+use Rattle.std.proofs.lemmas.Bool.{cases_Bool, cond-true, cond-false, leb-true, leb-false}
 use Rattle.std.specs.Prelude.{nat_le, codes}
 use Rattle.std.specs.Str.{chars}
 use Rattle.mf_tree.specs.declared.message.Message.{Message}
@@ -11,7 +11,7 @@ use Rattle.mf_tree.specs.Compiled as compiled
 use Rattle.mf_tree.specs.Faults.{faults}
 use Rattle.mf_tree.specs.Grammar.{SpellsMessage}
 use Rattle.mf_parse.specs.Computed.{message_of}
-use Rattle.mf_parse.proofs.Messages.{message_complete, none_spelled}
+use Rattle.mf_parse.proofs.Messages.{none_spelled}
 use Rattle.mf_parse.proofs.SoundMessages.{message_sound}
 use Rattle.mf_tree.specs.Nodes.{IsMessage}
 use Rattle.mf_tree.proofs.Nodes.{message as spelled_node}

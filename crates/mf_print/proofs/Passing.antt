@@ -1,11 +1,6 @@
 -- Parts that are written one after the other.
-use Rattle.std.proofs.Common.{◌≡◌, ℕ, List, [], ◌∷◌, ◌++◌, ap, sym, ◌∙◌, chars, Result, Ok, Err, cond, append_assoc, subst, codes}
-use Rattle.std.proofs.lemmas.List.{append-nil}
-use Rattle.std.proofs.lemmas.Str.{chars-nil, chars_past_char, chars-append, IsUtf8-encode}
-use Rattle.std.specs.Char.{IsScalar}
-use Rattle.std.specs.Prelude.{encode_utf8, OnOk}
-use Rattle.std.specs.Result.{is_ok}
-use Rattle.std.specs.Str.{IsUtf8}
+use Rattle.std.proofs.Common.{◌≡◌, ℕ, List, [], ◌∷◌, ◌++◌, ap, sym, ◌∙◌, Result, Ok, Err, append_assoc, subst, codes}
+use Rattle.std.specs.Prelude.{OnOk}
 
 -- a text between two bars
 pub between_bars : {E : Type 0} (r : Result (Unit {0}) E) (old inner new text : List ℕ) → inner ≡ (old ++ 0x7C ∷ []) ++ text → OnOk r (new ≡ inner ++ 0x7C ∷ []) →
