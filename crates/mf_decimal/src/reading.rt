@@ -12,13 +12,16 @@ use crate::decimal::Decimal;
 use crate::parts::{Parts, split};
 use crate::powers::ten_to;
 use crate::significand::Significand;
+use thiserror::Error;
 
 /// Why a text has no decimal.
-#[derive(Clone, Copy, PartialEq, Eq, Debug)]
+#[derive(Clone, Copy, Debug, PartialEq, Eq, Error)]
 pub enum NumberError {
     /// The text is no number literal.
+    #[error("the text is no number literal")]
     NotANumber,
     /// It is one, and its plain form has more than 36 digits or a scale past 36.
+    #[error("the number has more than 36 digits or a scale past 36")]
     TooWide,
 }
 
