@@ -6,9 +6,9 @@ use Rattle.std.proofs.lemmas.Bool.{le-leb, lt-leb}
 use Rattle.std.proofs.lemmas.Bool.Decides.{nat_tests}
 use Rattle.std.proofs.lemmas.Str.{encodes-append}
 use Rattle.mf_numfmt.specs.declared.layout.Layout.{Layout}
-use Rattle.mf_numfmt.specs.Groups.{ValidLayout}
 use Rattle.mf_numfmt.specs.NumberText.{digit_at, digit_character, separator, places_text, fraction_text}
 use Rattle.mf_numfmt.specs.Spans.{span_text, group_text}
+use Rattle.mf_numfmt.proofs.Sizes.{size_some}
 
 -- what is written, with what is left to write, stays the same when the front of what is left is written
 pub written_more : (now after front back left all : List ℕ) → after ≡ now ++ encode_utf8_all front → left ≡ front ++ back
@@ -40,9 +40,9 @@ span_more n from at next d some e digit =
     ∙ ap (λ (x : ℕ). digit_character x ∷ span_text n from k) (sym digit)
 
 -- no separator stands to the right of the last digit
-none_at_point : (layout : Layout) (grouped : Bool) → ValidLayout layout → separator layout grouped 0 ≡ []
-none_at_point layout true valid = rw (lt-leb layout.primary 0 valid.primary_some) refl
-none_at_point layout false valid = refl
+none_at_point : (layout : Layout) (grouped : Bool) → separator layout grouped 0 ≡ []
+none_at_point layout true = rw (lt-leb layout.primary 0 (size_some layout.primary layout.primary_fits)) refl
+none_at_point layout false = refl
 
 -- a span in which no separator stands but to the right of its last digit
 spans : (layout : Layout) (grouped : Bool) (n end k : ℕ) → ((j : ℕ) → end < j → j ≤ end + k → separator layout grouped j ≡ [])
@@ -63,22 +63,22 @@ pub some_end : (group : List ℕ) (end : ℕ) → 0 < end → group ≡ (if end 
 some_end group end some = rw (some_test end some) refl
 
 -- what stands to the right of the last digit of a group
-at_end : (layout : Layout) (grouped : Bool) (end : ℕ) → ValidLayout layout → (0 < end → separator layout grouped end ≡ layout.group)
+at_end : (layout : Layout) (grouped : Bool) (end : ℕ) → (0 < end → separator layout grouped end ≡ layout.group)
     → separator layout grouped end ≡ (if end == 0 then [] else layout.group)
-at_end layout grouped zero valid ends = none_at_point layout grouped valid
-at_end layout grouped (suc k) valid ends = ends (omega arith) ∙ some_end layout.group (suc k) (omega arith)
+at_end layout grouped zero ends = none_at_point layout grouped
+at_end layout grouped (suc k) ends = ends (omega arith) ∙ some_end layout.group (suc k) (omega arith)
 
-pub places_by_group : (layout : Layout) (grouped : Bool) (n place end : ℕ) → ValidLayout layout → end < place
+pub places_by_group : (layout : Layout) (grouped : Bool) (n place end : ℕ) → end < place
     → (0 < end → separator layout grouped end ≡ layout.group)
     → ((j : ℕ) → end < j → j < place → separator layout grouped j ≡ [])
     → places_text layout grouped n place ≡ group_text layout n place end ++ places_text layout grouped n end
-places_by_group layout grouped n place end valid below ends none =
+places_by_group layout grouped n place end below ends none =
     let k : ℕ = place - end - 1 in
     let left : place - end ≡ suc k = omega arith in
     let above : place ≡ suc (end + k) = omega arith in
     ap (places_text layout grouped n) above
     ∙ spans layout grouped n end k (λ j from to. none j from (omega arith))
-    ∙ ap (λ (s : List ℕ). span_text n end (suc k) ++ (s ++ places_text layout grouped n end)) (at_end layout grouped end valid ends)
+    ∙ ap (λ (s : List ℕ). span_text n end (suc k) ++ (s ++ places_text layout grouped n end)) (at_end layout grouped end ends)
     ∙ sym (append_assoc (span_text n end (suc k)) (if end == 0 then [] else layout.group) (places_text layout grouped n end))
     ∙ ap (λ (len : ℕ). (span_text n end len ++ (if end == 0 then [] else layout.group)) ++ places_text layout grouped n end) (sym left)
 
@@ -120,12 +120,12 @@ between q s m some above below even =
 not_separated : (p s k : ℕ) → p ≤ k → (k - p) % s ≢ 0 → (nat_le p k && ((k - p) % s == 0)) ≡ false
 not_separated p s k le rest = grind (arith, nat_tests)
 
-pub within_group : (layout : Layout) (grouped : Bool) (place k : ℕ) → ValidLayout layout → layout.primary < place
+pub within_group : (layout : Layout) (grouped : Bool) (place k : ℕ) → layout.primary < place
     → layout.primary + (place - 1 - layout.primary) / layout.secondary * layout.secondary < k → k < place
     → separator layout grouped k ≡ []
-within_group layout false place k valid more above below = refl
-within_group layout true place k valid more above below =
+within_group layout false place k more above below = refl
+within_group layout true place k more above below =
     let p = layout.primary in
     let s = layout.secondary in
-    let rest : (k - p) % s ≢ 0 = between (place - 1 - p) s (k - p) valid.secondary_some (omega arith) (omega arith) in
+    let rest : (k - p) % s ≢ 0 = between (place - 1 - p) s (k - p) (size_some s layout.secondary_fits) (omega arith) (omega arith) in
     rw (not_separated p s k (omega arith) rest) refl

@@ -7,9 +7,10 @@ use Rattle.std.proofs.lemmas.Bool.{le-leb, lt-leb, cases_lt}
 use Rattle.std.proofs.lemmas.Nat.{mod_below, div-mul-add, mod-mul-add}
 use Rattle.std.proofs.lemmas.Str.{encodes-append, encode_ascii}
 use Rattle.mf_numfmt.specs.declared.layout.Layout.{Layout}
-use Rattle.mf_numfmt.specs.Groups.{ValidLayout, separates}
+use Rattle.mf_numfmt.specs.Groups.{separates}
 use Rattle.mf_numfmt.specs.NumberText.{digit_at, digit_character, separator, places_text, fraction_text}
 use Rattle.mf_numfmt.proofs.Grouped.{some_test, some_end}
+use Rattle.mf_numfmt.proofs.Sizes.{size_some}
 
 -- one where the test holds
 abbrev one : Bool → ℕ
@@ -66,19 +67,19 @@ ceil_more m s some =
 ceil_none : (m s : ℕ) → m ≡ 0 → 0 < s → div_ceil m s ≡ 0
 ceil_none m s none some = omega (arith, div-eq_of_lt {n = m} {m = s} (omega arith), mod-eq_of_lt {n = m} {m = s} (omega arith))
 
-count_grouped : (layout : Layout) (count : ℕ) → ValidLayout layout → separators layout true count ≡ div_ceil (count - layout.primary) layout.secondary
-count_grouped layout zero valid = sym (ceil_none (0 - layout.primary) layout.secondary (omega arith) valid.secondary_some)
-count_grouped layout (suc place) valid = ⊎_elim
+count_grouped : (layout : Layout) (count : ℕ) → separators layout true count ≡ div_ceil (count - layout.primary) layout.secondary
+count_grouped layout zero = sym (ceil_none (0 - layout.primary) layout.secondary (omega arith) (size_some layout.secondary layout.secondary_fits))
+count_grouped layout (suc place) = ⊎_elim
     (λ (few : place < layout.primary). rw (lt-leb layout.primary place few)
     (omega (
       arith,
-      count_grouped layout place valid,
-      ceil_none (place - layout.primary) layout.secondary (omega arith) valid.secondary_some,
-      ceil_none (suc place - layout.primary) layout.secondary (omega arith) valid.secondary_some,
+      count_grouped layout place,
+      ceil_none (place - layout.primary) layout.secondary (omega arith) (size_some layout.secondary layout.secondary_fits),
+      ceil_none (suc place - layout.primary) layout.secondary (omega arith) (size_some layout.secondary layout.secondary_fits),
     )))
     (λ (some : layout.primary ≤ place). let before : ℕ = place - layout.primary in rw (le-leb layout.primary place some)
-    (ap (λ (k : ℕ). one (before % layout.secondary == 0) + k) (count_grouped layout place valid)
-    ∙ ceil_more before layout.secondary valid.secondary_some
+    (ap (λ (k : ℕ). one (before % layout.secondary == 0) + k) (count_grouped layout place)
+    ∙ ceil_more before layout.secondary (size_some layout.secondary layout.secondary_fits)
     ∙ ap (λ (m : ℕ). div_ceil m layout.secondary) (omega arith)))
     (cases_lt place layout.primary)
 
@@ -86,11 +87,11 @@ count_none : (layout : Layout) (count : ℕ) → separators layout false count �
 count_none layout zero = refl
 count_none layout (suc place) = omega (arith, count_none layout place)
 
-pub grouped_length : (layout : Layout) (grouped : Bool) (n count k : ℕ) → ValidLayout layout → grouped ≡ true
+pub grouped_length : (layout : Layout) (grouped : Bool) (n count k : ℕ) → grouped ≡ true
     → k ≡ div_ceil (count - layout.primary) layout.secondary
     → length (encode_utf8_all (places_text layout grouped n count)) ≡ k * length (encode_utf8_all layout.group) + count
-grouped_length layout grouped n count k valid on is =
-    rw on (places_length layout true n count ∙ ap (λ (s : ℕ). s * length (encode_utf8_all layout.group) + count) (count_grouped layout count valid ∙ sym is))
+grouped_length layout grouped n count k on is =
+    rw on (places_length layout true n count ∙ ap (λ (s : ℕ). s * length (encode_utf8_all layout.group) + count) (count_grouped layout count ∙ sym is))
 
 pub plain_length : (layout : Layout) (grouped : Bool) (n count : ℕ) → grouped ≡ false
     → length (encode_utf8_all (places_text layout grouped n count)) ≡ count

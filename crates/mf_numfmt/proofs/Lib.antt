@@ -1,3 +1,4 @@
+pub mod Sizes
 pub mod Taking
 pub mod Grouped
 pub mod Joining

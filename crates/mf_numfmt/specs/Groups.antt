@@ -1,18 +1,9 @@
 -- Where the whole digits of a number are separated (Unicode TS 35, Part 3, "Number Patterns" and the element
 -- minimumGroupingDigits; Part 9, the option useGrouping).
-use Rattle.std.specs.Prelude.{ℕ, ◌+◌, ◌-◌, ◌%◌, ◌≤◌, Bool, false, ◌&&◌, ◌==◌, nat_le}
+use Rattle.std.specs.Prelude.{ℕ, ◌+◌, ◌-◌, ◌%◌, Bool, false, ◌&&◌, ◌==◌, nat_le}
 use Rattle.mf_numfmt.specs.declared.layout.Layout.{Layout}
 use Rattle.mf_numfmt.specs.declared.options.Grouping.{Grouping}
 use Rattle.mf_numfmt.specs.declared.options.Grouping.TheVariants.{Auto, Always, Never, Min2}
-
--- the sizes of a layout are from 1 to 9
-pub record ValidLayout (layout : Layout) : Type 0 where
-  pub primary_some : 1 ≤ layout.primary
-  pub primary_few : layout.primary ≤ 9
-  pub secondary_some : 1 ≤ layout.secondary
-  pub secondary_few : layout.secondary ≤ 9
-  pub min_group_some : 1 ≤ layout.min_group
-  pub min_group_few : layout.min_group ≤ 9
 
 -- whether so many whole digits are separated at all: so many stand before the primary group that it is wanted
 abbrev pub is_grouped : Layout → Grouping → ℕ → Bool

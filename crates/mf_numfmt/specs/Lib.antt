@@ -1,3 +1,4 @@
+pub mod Sizes
 pub mod Signs
 pub mod Groups
 pub mod NumberText

@@ -1,7 +1,6 @@
 //! The length of a number's text, known before it is written.
 
 ghost use Rattle.std.specs.Prelude.{◌≡◌, ℕ, ◌+◌, ◌-◌, ◌*◌, ◌^◌, ◌≤◌, length, min, encode_utf8_all};
-ghost use Rattle.mf_numfmt.specs.Groups.{ValidLayout};
 ghost use Rattle.mf_numfmt.specs.NumberText.{places_text, fraction_text};
 
 use crate::layout::Layout;
@@ -14,7 +13,6 @@ pub fn text_len(
     digits: usize,
     fraction_len: usize,
 ) -> usize
-    requires { ValidLayout layout.now }
     ensures { (n fraction : ℕ) → result ≡ min (length sign.now + length (encode_utf8_all (places_text layout.now grouped n digits)) + length (encode_utf8_all (fraction_text layout.now fraction_len fraction))) (2 ^ 64 - 1) }
 {
     sign.len()
@@ -24,7 +22,6 @@ pub fn text_len(
 
 /// The length of the whole digits with their separators in bytes, or `usize::MAX` where it is greater.
 fn whole_text_len(layout: &Layout, grouped: bool, digits: usize) -> usize
-    requires { ValidLayout layout.now }
     ensures { (n : ℕ) → result ≡ min (length (encode_utf8_all (places_text layout.now grouped n digits))) (2 ^ 64 - 1) }
 {
     let group_len = layout.group.as_str().len();
@@ -45,7 +42,6 @@ fn fraction_text_len(layout: &Layout, fraction_len: usize) -> usize
 
 /// How many separators stand between so many whole digits.
 fn separator_count(layout: &Layout, grouped: bool, digits: usize) -> usize
-    requires { ValidLayout layout.now }
     ensures { (n : ℕ) → length (encode_utf8_all (places_text layout.now grouped n digits)) ≡ result * length (encode_utf8_all layout.now.group) + digits }
 {
     if !grouped {

@@ -2,7 +2,7 @@
 
 ghost use Rattle.std.specs.Prelude.{◌≡◌, ◌≤◌, IfOk, encode_utf8_all};
 ghost use Rattle.mf_numfmt.specs.Signs.{sign_text};
-ghost use Rattle.mf_numfmt.specs.Groups.{ValidLayout, is_grouped};
+ghost use Rattle.mf_numfmt.specs.Groups.{is_grouped};
 ghost use Rattle.mf_numfmt.specs.NumberText.{number_text};
 
 use crate::layout::Layout;
@@ -24,7 +24,6 @@ pub fn text(
     grouping: Grouping,
     min_whole: u32,
 ) -> Result<Text, AllocError>
-    requires valid { ValidLayout layout.now }
     requires some { 1 ≤ min_whole }
     requires few { min_whole ≤ 21 }
     ensures { IfOk result (λ text. text ≡ number_text shown.now layout.now sign grouping min_whole) }
@@ -58,7 +57,6 @@ fn sign_symbol<'a>(layout: &'a Layout, sign: Sign, shown: &Shown) -> &'a str
 
 /// Whether so many whole digits are separated.
 fn is_grouped(layout: &Layout, grouping: Grouping, digits: usize) -> bool
-    requires { ValidLayout layout.now }
     ensures { result ≡ is_grouped layout.now grouping digits }
 {
     let least = match grouping {

@@ -1,8 +1,5 @@
 //! Worked values from outside the definitions.
 
-ghost use Rattle.std.specs.Prelude.{◌≡◌, IfOk};
-ghost use Rattle.mf_numfmt.specs.Groups.{ValidLayout};
-
 use crate::{Grouping, Layout, Sign, text};
 use mf_decimal::{Digits, of_i64, of_u64, read};
 use mf_text::Text;
@@ -13,7 +10,6 @@ const WHOLE: Digits = Digits::Fraction { min: 0, max: 0 };
 
 // English, with these symbols.
 fn english(alloc: Global, decimal: &str, group: &str, minus: &str) -> Result<Layout, AllocError>
-    ensures { IfOk result ValidLayout }
 {
     Ok(Layout {
         decimal: Text::of(alloc, decimal)?,
@@ -51,7 +47,6 @@ fn one_to_eight_digits(
     layout: &Layout,
     grouping: Grouping,
 ) -> Result<String, AllocError>
-    requires { ValidLayout layout.now }
 {
     let mut texts = String::new(alloc);
     for number in [1, 12, 123, 1234, 12345, 123456, 1234567, 12345678] {

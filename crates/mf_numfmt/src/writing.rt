@@ -1,7 +1,6 @@
 //! The pieces of a number's text, each put at the end of the text that is made.
 
 ghost use Rattle.std.specs.Prelude.{◌≡◌, ℕ, ◌<◌, ◌≤◌, ◌-◌, ◌++◌, ◌∷◌, [], OnOk, encode_utf8_all, string_bytes};
-ghost use Rattle.mf_numfmt.specs.Groups.{ValidLayout};
 ghost use Rattle.mf_numfmt.specs.NumberText.{digit_character, separator, places_text, fraction_text};
 ghost use Rattle.mf_numfmt.specs.Spans.{span_text, group_text};
 
@@ -17,7 +16,6 @@ pub fn push_whole(
     layout: &Layout,
     grouped: bool,
 ) -> Result<(), AllocError>
-    requires valid { ValidLayout layout.now }
     requires within { count ≤ 56 }
     ensures { OnOk result (string_bytes text.new ≡ string_bytes text.old ++ encode_utf8_all (places_text layout.now grouped whole.now.number count)) }
 {
@@ -33,7 +31,6 @@ pub fn push_whole(
 /// The lowest place of the group whose first digit stands just below `place`: the next place down that has a separator
 /// to its right, or 0.
 fn group_end(layout: &Layout, grouped: bool, place: usize) -> usize
-    requires valid { ValidLayout layout.now }
     requires some { 0 < place }
     ensures below { result < place }
     ensures ends { 0 < result → separator layout.now grouped result ≡ layout.now.group }

@@ -10,5 +10,5 @@ returns-then-not-grouped c =
 pub returns : goal.returns
 returns c =
     let layout = c.args.layout.now in
-    λ n. grouped_length layout c.args.grouped n c.args.digits c.div_ceil.result c.requires c.if-not-grouped.false
+    λ n. grouped_length layout c.args.grouped n c.args.digits c.div_ceil.result c.if-not-grouped.false
     (c.div_ceil.ensures ∙ ap (λ (m : ℕ). div_ceil m layout.secondary) c.saturating_sub-before.ensures)

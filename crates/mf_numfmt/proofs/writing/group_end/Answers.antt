@@ -10,4 +10,4 @@ returns-clause-ends c =
 
 pub returns-clause-within : goal.returns-clause-within
 returns-clause-within c =
-    λ k above below. within_group c.args.layout.now c.args.grouped c.args.place k c.requires.valid (omega arith) above below
+    λ k above below. within_group c.args.layout.now c.args.grouped c.args.place k (omega arith) above below

@@ -14,5 +14,5 @@ loop-place-preserved c =
     record {
       within = omega arith;
       written = written_more _ _ (group_text layout n place end) (places_text layout c.args.grouped n end) _ _ c.in_ok-push_group.ensures
-          (places_by_group layout c.args.grouped n place end c.requires.valid found.below found.ends found.within) c.loop-place.invariant.written;
+          (places_by_group layout c.args.grouped n place end found.below found.ends found.within) c.loop-place.invariant.written;
     }
