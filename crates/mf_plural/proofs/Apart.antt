@@ -3,8 +3,7 @@ use Rattle.std.proofs.Common.{◌≡◌, ◌∙◌, ℕ, Bool, true, false, cond
 use Rattle.std.specs.List.{onto_first}
 use Rattle.std.specs.Prelude.{◌&&◌, ◌||◌}
 use Rattle.std.proofs.lemmas.Bool.{false≢true}
-use Rattle.mf_plural.specs.Grammar.{between, separates}
-use Rattle.mf_plural.specs.Syntax.{Each, IsRule, sign, SpellsCondition, SpellsItem, SpellsModulus, SpellsPart, SpellsRelation}
+use Rattle.mf_plural.specs.Grammar.{between, separates, Each, IsRule, sign, SpellsCondition, SpellsItem, SpellsModulus, SpellsPart, SpellsRelation}
 use Rattle.mf_plural.specs.declared.rule.Item.{Item}
 use Rattle.mf_plural.specs.declared.rule.Item.TheVariants as item
 use Rattle.mf_plural.specs.declared.rule.Relation.{Relation}

@@ -5,8 +5,7 @@ use Rattle.std.proofs.lemmas.List.Splits.{length-slice_split, slice_split_first,
 use Rattle.std.proofs.lemmas.List.Sums.{fails_before_first, prefix_len-le-length}
 use Rattle.std.proofs.lemmas.Option.{cond_some}
 use Rattle.std.specs.List.{position, position_or_len, list_all, slice_split}
-use Rattle.mf_plural.specs.Grammar.{rule_texts, without_blank_end}
-use Rattle.mf_plural.specs.Tokens.{is_white}
+use Rattle.mf_plural.specs.Grammar.{rule_texts, without_blank_end, is_white}
 use Rattle.std.specs.Prelude.{nat_lt, ◌==◌}
 
 no_place : (within : Bool) (first : ℕ) → None ≡ cond within (Some first) None → within ≡ false

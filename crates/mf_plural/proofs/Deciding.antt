@@ -1,10 +1,9 @@
 -- Each text spells its rules or has a first bad one.
 use Rattle.std.proofs.Common.{◌≡◌, ◌∙◌, ◌⊎◌, inl, inr, ℕ, suc, ◌+◌, List, [], ◌∷◌, ◌++◌, length, Option, Some, None, refl, ap, sym, subst, append_assoc}
 use Rattle.std.proofs.lemmas.List.{append-nil}
-use Rattle.mf_plural.specs.Grammar.{rule_texts}
+use Rattle.mf_plural.specs.Grammar.{rule_texts, IsFirstBad, SpellEach, SpellsNewRule, SpellsRules}
 use Rattle.mf_plural.specs.Laws.{IsBad, IsGood}
-use Rattle.mf_plural.specs.Reading.{new_rule}
-use Rattle.mf_plural.specs.Rules.{IsFirstBad, SpellEach, SpellsNewRule, SpellsRules}
+use Rattle.mf_plural.specs.Computed.{new_rule}
 use Rattle.mf_plural.specs.declared.rule.Rule.{Rule}
 use Rattle.mf_plural.proofs.Meaning.{new_good, new_is}
 use Rattle.mf_plural.proofs.Options.{same_some}

@@ -10,7 +10,7 @@ use Rattle.std.proofs.lemmas.Bool.Decides.{nat_tests}
 use Rattle.std.proofs.lemmas.Int.Digits.{digits_value_more}
 use Rattle.std.proofs.lemmas.Nat.{pow-add}
 use Rattle.std.proofs.lemmas.Str.{digit_value_digit}
-use Rattle.mf_plural.specs.Tokens.{is_value}
+use Rattle.mf_plural.specs.Grammar.{is_value}
 
 -- a value has at most 18 digits, and nothing else
 pub value_parts : (text : List ℕ) → is_value text ≡ true → (length text ≤ 18) × (list_all is_ascii_digit text ≡ true)

@@ -5,9 +5,8 @@ use Rattle.std.specs.List.{list_all}
 use Rattle.std.specs.Prelude.{◌==◌, ◌&&◌, ◌||◌, codes, nat_le, not}
 use Rattle.std.proofs.lemmas.Bool.{and_parts, false≢true}
 use Rattle.std.proofs.lemmas.Bool.Decides.{nat_tests}
-use Rattle.mf_plural.specs.Lexemes.{are_joined, is_letter}
-use Rattle.mf_plural.specs.Syntax.{SpellsOperand, SpellsToken, is_word, keyword_text}
-use Rattle.mf_plural.specs.Tokens.{is_value, is_white}
+use Rattle.mf_plural.specs.Computed.{are_joined, is_letter}
+use Rattle.mf_plural.specs.Grammar.{SpellsOperand, SpellsToken, is_word, keyword_text, is_value, is_white}
 use Rattle.mf_plural.specs.declared.rule.Category.{Category}
 use Rattle.mf_plural.specs.declared.rule.Category.TheVariants.{Zero, One, Two, Few, Many, Other}
 use Rattle.mf_plural.specs.declared.rule.Operand.{Operand}

@@ -2,7 +2,7 @@
 use Rattle.std.proofs.Common.{◌≡◌, ◌∙◌, List, [], ◌∷◌, ◌++◌, Option, Some, None, refl, ap, sym, append_assoc}
 use Rattle.std.proofs.lemmas.List.{append-nil}
 use Rattle.std.specs.Option.{option_map, option_and_then}
-use Rattle.mf_plural.specs.TokenReading.{all_of}
+use Rattle.mf_plural.specs.Computed.{all_of}
 
 pub all_start : {B : Type 0} (all : Option (List B)) → all ≡ option_map (λ more. [] ++ more) all
 all_start None = refl

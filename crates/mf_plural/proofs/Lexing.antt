@@ -4,8 +4,8 @@ use Rattle.std.proofs.Math.Nat.{eq-or-lt_of_le}
 use Rattle.std.specs.List.{onto_first}
 use Rattle.std.proofs.lemmas.Bool.Decides.{nat_tests}
 use Rattle.mf_plural.specs.Cuts.{BeginsWithToken}
-use Rattle.mf_plural.specs.Lexemes.{are_joined, lexemes}
-use Rattle.mf_plural.specs.Tokens.{is_white}
+use Rattle.mf_plural.specs.Computed.{are_joined, lexemes}
+use Rattle.mf_plural.specs.Grammar.{is_white}
 
 pub past_white : (c : ℕ) (cs : List ℕ) → is_white c ≡ true → lexemes (c ∷ cs) ≡ lexemes cs
 past_white c [] white = ap (λ (b : Bool). cond b [] ((c ∷ []) ∷ [])) white

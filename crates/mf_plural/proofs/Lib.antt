@@ -12,3 +12,4 @@ pub mod Wholes
 pub mod Ends
 pub mod Spaced
 pub mod Apart
+pub mod Computing

@@ -4,13 +4,9 @@ use Rattle.std.specs.Prelude.{◌==◌, nat_le}
 use Rattle.std.specs.Option.{option_and_then, option_map}
 use Rattle.std.proofs.lemmas.Bool.Decides.{nat_tests}
 use Rattle.std.proofs.lemmas.Option.{none-some}
-use Rattle.mf_plural.specs.Grammar.{before_samples, between, is_fit}
+use Rattle.mf_plural.specs.Grammar.{before_samples, between, is_fit, SpellsNewRule, Each, IsRule, SpellsCondition, SpellsItem, SpellsItems, SpellsModulus, SpellsPart, SpellsRelation, SpellsRule, SpellsToken, sign}
 use Rattle.mf_plural.specs.Keywords.{has_keyword}
-use Rattle.mf_plural.specs.Lexemes.{lexemes}
-use Rattle.mf_plural.specs.Reading.{compared, condition_of, fit_rule, if_new, item_of, items_of, new_rule, part_of, relation_of, rule_from, rule_of}
-use Rattle.mf_plural.specs.Rules.{SpellsNewRule}
-use Rattle.mf_plural.specs.Syntax.{Each, IsRule, SpellsCondition, SpellsItem, SpellsItems, SpellsModulus, SpellsPart, SpellsRelation, SpellsRule, SpellsToken, sign}
-use Rattle.mf_plural.specs.TokenReading.{all_of, token_of, tokens_of}
+use Rattle.mf_plural.specs.Computed.{lexemes, compared, condition_of, fit_rule, if_new, item_of, items_of, new_rule, part_of, relation_of, rule_from, rule_of, all_of, token_of, tokens_of}
 use Rattle.mf_plural.specs.declared.rule.Category.{Category}
 use Rattle.mf_plural.specs.declared.rule.Item.{Item}
 use Rattle.mf_plural.specs.declared.rule.Item.TheVariants as item

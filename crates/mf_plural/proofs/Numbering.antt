@@ -10,11 +10,9 @@ use Rattle.std.proofs.lemmas.Cmp.{nat_eq_equiv}
 use Rattle.std.proofs.lemmas.List.{append-nil, length-map, map-append}
 use Rattle.std.proofs.lemmas.Map.Keys.{IsDistinct-push}
 use Rattle.std.proofs.lemmas.Map.Steps.{length-le_from_distinct_below}
-use Rattle.mf_plural.specs.Grammar.{rule_texts, without_blank_end}
-use Rattle.mf_plural.specs.Keywords.{has_keyword, place}
-use Rattle.mf_plural.specs.Reading.{new_rule}
-use Rattle.mf_plural.specs.Rules.{IsFirstBad, SpellEach, SpellsNewRule, SpellsRules, rules_behind, rules_of, with_rule}
-use Rattle.mf_plural.specs.Tokens.{is_white}
+use Rattle.mf_plural.specs.Grammar.{rule_texts, without_blank_end, IsFirstBad, SpellEach, SpellsNewRule, SpellsRules, is_white}
+use Rattle.mf_plural.specs.Keywords.{has_keyword, rank}
+use Rattle.mf_plural.specs.Computed.{new_rule, rules_behind, rules_of, with_rule}
 use Rattle.mf_plural.specs.declared.rule.Category.{Category}
 use Rattle.mf_plural.specs.declared.rule.Category.TheVariants.{Zero, One, Two, Few, Many, Other}
 use Rattle.mf_plural.specs.declared.rule.Rule.{Rule}
@@ -89,55 +87,55 @@ pub front_numbered : (text rest first after : List ℕ) (rules : List Rule) (num
 front_numbered text rest first after rules number so_far texts none counted =
     so_far.computed ∙ computed_next rules (rule_texts rest) (rule_texts after) first None texts none ∙ ap Err (sym counted)
 
-places : List Rule → List ℕ
-places rules = map (λ rule. place rule.keyword) rules
+ranks : List Rule → List ℕ
+ranks rules = map (λ rule. rank rule.keyword) rules
 
-among_places : (keyword : Category) (rules : List Rule) → list_any (nat_eq (place keyword)) (map (λ rule. place rule.keyword) rules) ≡ has_keyword keyword rules
-among_places keyword [] = refl
-among_places keyword (rule ∷ rules) = ap (λ rest. (place keyword == place rule.keyword) || rest) (among_places keyword rules)
+among_ranks : (keyword : Category) (rules : List Rule) → list_any (nat_eq (rank keyword)) (map (λ rule. rank rule.keyword) rules) ≡ has_keyword keyword rules
+among_ranks keyword [] = refl
+among_ranks keyword (rule ∷ rules) = ap (λ rest. (rank keyword == rank rule.keyword) || rest) (among_ranks keyword rules)
 
-place_below : (keyword : Category) → place keyword < 6
-place_below Zero = omega arith
-place_below One = omega arith
-place_below Two = omega arith
-place_below Few = omega arith
-place_below Many = omega arith
-place_below Other = omega arith
+rank_below : (keyword : Category) → rank keyword < 6
+rank_below Zero = omega arith
+rank_below One = omega arith
+rank_below Two = omega arith
+rank_below Few = omega arith
+rank_below Many = omega arith
+rank_below Other = omega arith
 
 distinct_none : IsDistinct nat_eq []
 unfolding IsDistinct
 distinct_none = tt
 
 -- no two rules have one keyword
-spell_distinct : (earlier : List Rule) (texts : List (List ℕ)) (rules : List Rule) → SpellEach earlier texts rules → IsDistinct nat_eq (places earlier)
-    → IsDistinct nat_eq (places (earlier ++ rules))
-unfolding places
-spell_distinct earlier [] [] good distinct = subst (λ rs. IsDistinct nat_eq (places rs)) (sym (append-nil earlier)) distinct
+spell_distinct : (earlier : List Rule) (texts : List (List ℕ)) (rules : List Rule) → SpellEach earlier texts rules → IsDistinct nat_eq (ranks earlier)
+    → IsDistinct nat_eq (ranks (earlier ++ rules))
+unfolding ranks
+spell_distinct earlier [] [] good distinct = subst (λ rs. IsDistinct nat_eq (ranks rs)) (sym (append-nil earlier)) distinct
 spell_distinct earlier [] (rule ∷ rules) good distinct = absurd good
 spell_distinct earlier (text ∷ texts) [] good distinct = absurd good
 spell_distinct earlier (text ∷ texts) (rule ∷ rules) good distinct =
-    let is_new : list_any (nat_eq (place rule.keyword)) (places earlier) ≡ false = among_places rule.keyword earlier ∙ good.0.is_new in
-    let pushed : IsDistinct nat_eq (places earlier ++ place rule.keyword ∷ []) = IsDistinct-push nat_eq_equiv (places earlier) (place rule.keyword) distinct is_new in
-    let next : IsDistinct nat_eq (places (earlier ++ rule ∷ [])) =
-    subst (λ ps. IsDistinct nat_eq ps) (sym (map-append (λ r. place r.keyword) earlier (rule ∷ []))) pushed in
-    subst (λ rs. IsDistinct nat_eq (places rs)) (append_assoc earlier (rule ∷ []) rules) (spell_distinct (earlier ++ rule ∷ []) texts rules good.1 next)
+    let is_new : list_any (nat_eq (rank rule.keyword)) (ranks earlier) ≡ false = among_ranks rule.keyword earlier ∙ good.0.is_new in
+    let pushed : IsDistinct nat_eq (ranks earlier ++ rank rule.keyword ∷ []) = IsDistinct-push nat_eq_equiv (ranks earlier) (rank rule.keyword) distinct is_new in
+    let next : IsDistinct nat_eq (ranks (earlier ++ rule ∷ [])) =
+    subst (λ ps. IsDistinct nat_eq ps) (sym (map-append (λ r. rank r.keyword) earlier (rule ∷ []))) pushed in
+    subst (λ rs. IsDistinct nat_eq (ranks rs)) (append_assoc earlier (rule ∷ []) rules) (spell_distinct (earlier ++ rule ∷ []) texts rules good.1 next)
 
 among_below : (q p : ℕ) (rest : Bool) → p < 6 → (rest ≡ true → q < 6) → (nat_eq q p || rest) ≡ true → q < 6
 among_below q p true small later among = later refl
 among_below q p false small later among = grind (arith, nat_tests, small, among)
 
-all_below : (rules : List Rule) (q : ℕ) → list_any (nat_eq q) (map (λ rule. place rule.keyword) rules) ≡ true → q < 6
+all_below : (rules : List Rule) (q : ℕ) → list_any (nat_eq q) (map (λ rule. rank rule.keyword) rules) ≡ true → q < 6
 all_below [] q among = absurd (false≢true among)
 all_below (rule ∷ rules) q among =
-    among_below q (place rule.keyword) (list_any (nat_eq q) (map (λ r. place r.keyword) rules)) (place_below rule.keyword) (all_below rules q) among
+    among_below q (rank rule.keyword) (list_any (nat_eq q) (map (λ r. rank r.keyword) rules)) (rank_below rule.keyword) (all_below rules q) among
 
 -- so there are at most six of them
 pub front_short : (text rest : List ℕ) (rules : List Rule) → ReadsFront text rest rules → length rules ≤ 6
-unfolding places
+unfolding ranks
 front_short text rest rules so_far =
-    let distinct : IsDistinct nat_eq (places rules) = spell_distinct [] so_far.front rules so_far.good distinct_none in
-    let short : length (places rules) ≤ 6 = length-le_from_distinct_below (places rules) 6 distinct (all_below rules) in
-    omega (arith, short, length-map rules (λ (rule : Rule). place rule.keyword))
+    let distinct : IsDistinct nat_eq (ranks rules) = spell_distinct [] so_far.front rules so_far.good distinct_none in
+    let short : length (ranks rules) ≤ 6 = length-le_from_distinct_below (ranks rules) 6 distinct (all_below rules) in
+    omega (arith, short, length-map rules (λ (rule : Rule). rank rule.keyword))
 
 no_mark : (byte : ℕ) → is_white byte ≡ true → (byte == 59) ≡ false
 no_mark byte white = grind (arith, nat_tests, white)

@@ -4,9 +4,8 @@ use Rattle.std.specs.List.{list_all, onto_first}
 use Rattle.std.specs.Prelude.{◌&&◌, ◌||◌, not}
 use Rattle.std.proofs.lemmas.Bool.{and_parts, false≢true}
 use Rattle.std.proofs.lemmas.Bool.Decides.{nat_tests}
-use Rattle.mf_plural.specs.Lexemes.{are_joined, is_letter, lexemes}
-use Rattle.mf_plural.specs.Syntax.{Begins, Each, SpellsSpaced, SpellsToken, is_word}
-use Rattle.mf_plural.specs.Tokens.{is_white}
+use Rattle.mf_plural.specs.Computed.{are_joined, is_letter, lexemes}
+use Rattle.mf_plural.specs.Grammar.{Begins, Each, SpellsSpaced, SpellsToken, is_word, is_white}
 use Rattle.mf_plural.specs.declared.token.Token.{Token}
 use Rattle.mf_plural.proofs.Ends.{first_of, HasEnds, is_chain, is_close, joined_is, last_of, token_ends}
 use Rattle.mf_plural.proofs.Lexing.{past_white}

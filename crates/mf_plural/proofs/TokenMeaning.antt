@@ -5,9 +5,8 @@ use Rattle.std.proofs.lemmas.Slice.Eq.{bytes_eq-Decides}
 use Rattle.std.specs.Option.{option_map}
 use Rattle.std.specs.Str.{bytes_eq}
 use Rattle.std.specs.Str.Parse.{digits_value}
-use Rattle.mf_plural.specs.Syntax.{SpellsOperand, SpellsToken, keyword_text}
-use Rattle.mf_plural.specs.TokenReading.{category_of, mark_of, operand_of, or_else, token_of, value_of}
-use Rattle.mf_plural.specs.Tokens.{is_value}
+use Rattle.mf_plural.specs.Grammar.{SpellsOperand, SpellsToken, keyword_text, is_value}
+use Rattle.mf_plural.specs.Computed.{category_of, mark_of, operand_of, or_else, token_of, value_of}
 use Rattle.mf_plural.specs.declared.rule.Category.{Category}
 use Rattle.mf_plural.specs.declared.rule.Category.TheVariants.{Zero, One, Two, Few, Many, Other}
 use Rattle.mf_plural.specs.declared.rule.Operand.{Operand}

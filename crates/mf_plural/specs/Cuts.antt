@@ -1,9 +1,8 @@
--- What is left behind a separator, and behind white space.
+-- For private clauses: what is left behind a separator, and behind white space.
 use Rattle.std.specs.Prelude.{◌≡◌, ℕ, ◌+◌, false, List, [], ◌∷◌, length, Option, Some, None}
 use Rattle.mf_plural.specs.declared.token.Separator.{Separator}
 use Rattle.mf_plural.specs.declared.token.Token.{Token}
-use Rattle.mf_plural.specs.Grammar.{between}
-use Rattle.mf_plural.specs.Tokens.{is_white}
+use Rattle.mf_plural.specs.Grammar.{between, is_white}
 
 -- the pieces of what is left, if anything is
 abbrev pub between_rest : Separator → Option (List Token) → List (List Token)

@@ -5,17 +5,17 @@ use Rattle.mf_plural.specs.declared.rule.Category.{Category}
 use Rattle.mf_plural.specs.declared.rule.Category.TheVariants.{Zero, One, Two, Few, Many, Other}
 use Rattle.mf_plural.specs.declared.rule.Rule.{Rule}
 
--- each category has a place of its own
-abbrev pub place : Category → ℕ
-place Zero = 0
-place One = 1
-place Two = 2
-place Few = 3
-place Many = 4
-place Other = 5
+-- each category has a rank of its own
+abbrev pub rank : Category → ℕ
+rank Zero = 0
+rank One = 1
+rank Two = 2
+rank Few = 3
+rank Many = 4
+rank Other = 5
 
 abbrev pub is_same : Category → Category → Bool
-is_same category other = place category == place other
+is_same category other = rank category == rank other
 
 -- one of the rules has the keyword
 abbrev pub has_keyword : Category → List Rule → Bool

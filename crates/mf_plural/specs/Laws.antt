@@ -1,6 +1,7 @@
 -- What holds of every text.
-use Rattle.std.specs.Prelude.{◌≡◌, ◌⊎◌, ℕ, List}
-use Rattle.mf_plural.specs.Rules.{IsFirstBad, SpellsRules}
+use Rattle.std.specs.Prelude.{◌≡◌, ◌⊎◌, ◌↔◌, ℕ, List, Ok, Err}
+use Rattle.mf_plural.specs.Computed.{rules_of}
+use Rattle.mf_plural.specs.Grammar.{IsFirstBad, SpellsRules}
 use Rattle.mf_plural.specs.declared.rule.Rule.{Rule}
 
 -- the text spells some rules
@@ -28,3 +29,11 @@ IsSpelledOnce = (text : List ℕ) (rules others : List Rule) → SpellsRules tex
 -- and the first bad rule has one number
 abbrev pub IsNumberedOnce : Type 0
 IsNumberedOnce = (text : List ℕ) (number other : ℕ) → IsFirstBad text number → IsFirstBad text other → number ≡ other
+
+-- the rules that are computed are those that the text spells
+abbrev pub AreRulesComputed : Type 0
+AreRulesComputed = (text : List ℕ) (rules : List Rule) → (rules_of text ≡ Ok rules) ↔ SpellsRules text rules
+
+-- and the number that is computed is that of its first bad rule
+abbrev pub IsNumberComputed : Type 0
+IsNumberComputed = (text : List ℕ) (number : ℕ) → (rules_of text ≡ Err number) ↔ IsFirstBad text number

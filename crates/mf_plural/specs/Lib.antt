@@ -1,12 +1,10 @@
-pub mod Tokens
-pub mod Lexemes
-pub mod TokenReading
-pub mod Operands
+-- What the standard says: Grammar, then Operands and Choice. What computes it: Computed, which the laws of Laws tie to it.
+-- Cuts is for private clauses.
 pub mod Grammar
-pub mod Cuts
 pub mod Keywords
-pub mod Reading
+pub mod Operands
 pub mod Choice
-pub mod Syntax
-pub mod Rules
+pub mod Refusals
+pub mod Computed
 pub mod Laws
+pub mod Cuts

@@ -4,8 +4,7 @@ ghost use Rattle.std.specs.Prelude.{◌≡◌, ◌<◌, ◌∷◌, ◌==◌, len
 ghost use Rattle.std.specs.List.{list_all, position};
 ghost use Rattle.std.specs.Option.{option_copied};
 ghost use Rattle.mf_plural.specs.Cuts.{between_rest};
-ghost use Rattle.mf_plural.specs.Grammar.{before_samples as text_before_samples, between, rule_texts, separates};
-ghost use Rattle.mf_plural.specs.Tokens.{is_white as is_white_byte};
+ghost use Rattle.mf_plural.specs.Grammar.{before_samples as text_before_samples, between, rule_texts, separates, is_white as is_white_byte};
 
 use crate::lexeme::is_white;
 use crate::token::{Separator, Token};

@@ -2,7 +2,7 @@
 
 ghost use Rattle.std.specs.Prelude.{◌≡◌, IfOk};
 ghost use Rattle.mf_plural.specs.Grammar as grammar;
-ghost use Rattle.mf_plural.specs.Reading as reading;
+ghost use Rattle.mf_plural.specs.Computed as computed;
 
 use crate::cut::cut;
 use crate::rule::{AndPart, Category, Condition, Item, Items, Operand, Relation, Rule};
@@ -11,7 +11,7 @@ use std::alloc::{AllocError, Global};
 
 /// The rule that tokens are, if they are one.
 pub fn read_rule(alloc: Global, tokens: &[Token]) -> Result<Option<Rule>, AllocError>
-    ensures { IfOk result (λ rule. rule ≡ reading.rule_of tokens.now) }
+    ensures { IfOk result (λ rule. rule ≡ computed.rule_of tokens.now) }
 {
     let [Token::Keyword(keyword), Token::Colon, rest @ ..] = tokens else {
         return Ok(None);
@@ -24,7 +24,7 @@ pub fn read_rule(alloc: Global, tokens: &[Token]) -> Result<Option<Rule>, AllocE
 
 // The rule of a keyword and a condition, where only `other` has none.
 fn fit_rule(keyword: Category, condition: Condition) -> Option<Rule>
-    ensures { result ≡ reading.fit_rule keyword condition }
+    ensures { result ≡ computed.fit_rule keyword condition }
 {
     if is_fit(keyword, &condition) {
         Some(Rule { keyword, condition })
@@ -45,7 +45,7 @@ fn is_fit(keyword: Category, condition: &Condition) -> bool
 
 // The condition that tokens are: none where there are no tokens.
 fn read_condition(alloc: Global, tokens: &[Token]) -> Result<Option<Condition>, AllocError>
-    ensures { IfOk result (λ parts. parts ≡ reading.condition_of tokens.now) }
+    ensures { IfOk result (λ parts. parts ≡ computed.condition_of tokens.now) }
 {
     if tokens.is_empty() {
         return Ok(Some(Condition::new(alloc)));
@@ -55,7 +55,7 @@ fn read_condition(alloc: Global, tokens: &[Token]) -> Result<Option<Condition>, 
 
 // The and-parts between each `or`.
 fn read_parts(alloc: Global, tokens: &[Token]) -> Result<Option<Condition>, AllocError>
-    ensures { IfOk result (λ parts. parts ≡ reading.parts_of tokens.now) }
+    ensures { IfOk result (λ parts. parts ≡ computed.parts_of tokens.now) }
 {
     let mut parts = Condition::new(alloc);
     let mut rest = Some(tokens);
@@ -72,7 +72,7 @@ fn read_parts(alloc: Global, tokens: &[Token]) -> Result<Option<Condition>, Allo
 
 // The relations between each `and`.
 fn read_part(alloc: Global, tokens: &[Token]) -> Result<Option<AndPart>, AllocError>
-    ensures { IfOk result (λ part. part ≡ reading.part_of tokens.now) }
+    ensures { IfOk result (λ part. part ≡ computed.part_of tokens.now) }
 {
     let mut part = AndPart::new(alloc);
     let mut rest = Some(tokens);
@@ -89,7 +89,7 @@ fn read_part(alloc: Global, tokens: &[Token]) -> Result<Option<AndPart>, AllocEr
 
 // The relation that tokens are.
 fn read_relation(alloc: Global, tokens: &[Token]) -> Result<Option<Relation>, AllocError>
-    ensures { IfOk result (λ relation. relation ≡ reading.relation_of tokens.now) }
+    ensures { IfOk result (λ relation. relation ≡ computed.relation_of tokens.now) }
 {
     match tokens {
         [Token::Operand(_), Token::Percent, Token::Value(0), ..] => Ok(None),
@@ -111,7 +111,7 @@ fn compared(
     modulus: Option<u64>,
     tokens: &[Token],
 ) -> Result<Option<Relation>, AllocError>
-    ensures { IfOk result (λ relation. relation ≡ reading.compared operand modulus tokens.now) }
+    ensures { IfOk result (λ relation. relation ≡ computed.compared operand modulus tokens.now) }
 {
     let (negated, list) = match tokens {
         [Token::Equals, list @ ..] => (false, list),
@@ -131,7 +131,7 @@ fn compared(
 
 // The items between the commas.
 fn read_items(alloc: Global, tokens: &[Token]) -> Result<Option<Items>, AllocError>
-    ensures { IfOk result (λ items. items ≡ reading.items_of tokens.now) }
+    ensures { IfOk result (λ items. items ≡ computed.items_of tokens.now) }
 {
     let mut items = Items::new(alloc);
     let mut rest = Some(tokens);
@@ -148,7 +148,7 @@ fn read_items(alloc: Global, tokens: &[Token]) -> Result<Option<Items>, AllocErr
 
 // The item that tokens are.
 fn item(tokens: &[Token]) -> Option<Item>
-    ensures { result ≡ reading.item_of tokens.now }
+    ensures { result ≡ computed.item_of tokens.now }
 {
     match tokens {
         [Token::Value(value)] => Some(Item::Value(*value)),

@@ -2,10 +2,9 @@
 
 ghost use Rattle.std.specs.Prelude.{◌≡◌, ◌<◌, ◌≤◌, ◌∷◌, [], length, take, drop, IfOk};
 ghost use Rattle.mf_plural.specs.Cuts.{BeginsWithToken};
-ghost use Rattle.mf_plural.specs.Lexemes.{lexemes};
-ghost use Rattle.mf_plural.specs.TokenReading.{tokens_of};
-ghost use Rattle.mf_plural.specs.Lexemes as lexeme;
-ghost use Rattle.mf_plural.specs.Tokens as tokens;
+ghost use Rattle.mf_plural.specs.Computed.{lexemes, tokens_of};
+ghost use Rattle.mf_plural.specs.Computed as computed;
+ghost use Rattle.mf_plural.specs.Grammar as grammar;
 
 use crate::token::{Token, Tokens};
 use std::alloc::{AllocError, Global};
@@ -29,7 +28,7 @@ pub fn read_tokens(alloc: Global, text: &[u8]) -> Result<Option<Tokens>, AllocEr
 
 /// Whether white space may be this byte.
 pub fn is_white(byte: u8) -> bool
-    ensures { result ≡ tokens.is_white byte }
+    ensures { result ≡ grammar.is_white byte }
 {
     byte == b' ' || byte == b'\t'
 }
@@ -67,7 +66,7 @@ fn lexeme_len(text: &[u8]) -> usize
 
 /// Whether two bytes side by side belong to one token.
 fn are_joined(first: u8, second: u8) -> bool
-    ensures { result ≡ lexeme.are_joined first second }
+    ensures { result ≡ computed.are_joined first second }
 {
     is_letter(first) && is_letter(second)
         || first.is_ascii_digit() && second.is_ascii_digit()
@@ -77,7 +76,7 @@ fn are_joined(first: u8, second: u8) -> bool
 
 /// Whether words may have this byte.
 fn is_letter(byte: u8) -> bool
-    ensures { result ≡ lexeme.is_letter byte }
+    ensures { result ≡ computed.is_letter byte }
 {
     byte.is_ascii_lowercase()
 }

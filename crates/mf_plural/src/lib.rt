@@ -24,6 +24,6 @@ mod word;
 
 pub use choice::category;
 pub use error::RuleError;
-pub use laws::{is_good_or_bad, is_numbered_once, is_spelled_once};
+pub use laws::{is_good_or_bad, is_numbered_once, is_spelled_once, rules_are_computed};
 pub use reading::read_rules;
 pub use rule::{AndPart, Category, Condition, Item, Items, Operand, Relation, Rule, Rules};

@@ -2,8 +2,10 @@
 
 ghost use Rattle.std.specs.Prelude.{◌≡◌, ◌+◌, ◌≤◌, length, IfErr, IfOk, Ok, Err};
 ghost use Rattle.mf_plural.specs.Keywords.{has_keyword as keyword_is_among, is_same as same_category};
-ghost use Rattle.mf_plural.specs.Rules.{IfBadRule, IsFirstBad, SpellsRules, rules_of};
-ghost use Rattle.mf_plural.specs.Reading as reading;
+ghost use Rattle.mf_plural.specs.Refusals.{IfBadRule};
+ghost use Rattle.mf_plural.specs.Grammar.{IsFirstBad, SpellsRules};
+ghost use Rattle.mf_plural.specs.Computed.{rules_of};
+ghost use Rattle.mf_plural.specs.Computed as computed;
 
 use crate::cut::{before_samples, first_rule, is_blank};
 use crate::error::RuleError;
@@ -42,7 +44,7 @@ pub fn read_rules(alloc: Global, text: &str) -> Result<Rules, RuleError>
 
 // The rule that a text is, if its keyword is new.
 fn new_rule(alloc: Global, earlier: &[Rule], text: &[u8]) -> Result<Option<Rule>, AllocError>
-    ensures { IfOk result (λ rule. rule ≡ reading.new_rule earlier.now text.now) }
+    ensures { IfOk result (λ rule. rule ≡ computed.new_rule earlier.now text.now) }
 {
     let Some(rule) = rule_from(alloc, text)? else {
         return Ok(None);
@@ -77,7 +79,7 @@ fn next_number(rules: &[Rule]) -> u32
 
 // The rule that a text is, its samples left aside.
 fn rule_from(alloc: Global, text: &[u8]) -> Result<Option<Rule>, AllocError>
-    ensures { IfOk result (λ rule. rule ≡ reading.rule_from text.now) }
+    ensures { IfOk result (λ rule. rule ≡ computed.rule_from text.now) }
 {
     let Some(tokens) = read_tokens(alloc, before_samples(text))? else {
         return Ok(None);

@@ -1,5 +1,8 @@
 //! What rules are made of.
 
+ghost use Rattle.std.specs.Prelude.{◌≡◌};
+ghost use Rattle.mf_plural.specs.Grammar.{keyword_text};
+
 use mf_text::List;
 
 /// A plural category.
@@ -11,6 +14,22 @@ pub enum Category {
     Few,
     Many,
     Other,
+}
+
+impl Category {
+    /// The keyword by which rules and the keys of messages name it: `zero`, `one`, `two`, `few`, `many` or `other`.
+    pub fn as_str(&self) -> &'static str
+        ensures { result.now ≡ keyword_text self.now }
+    {
+        match self {
+            Category::Zero => "zero",
+            Category::One => "one",
+            Category::Two => "two",
+            Category::Few => "few",
+            Category::Many => "many",
+            Category::Other => "other",
+        }
+    }
 }
 
 /// What a relation looks at in a shown number, with the letter that rules write for it.

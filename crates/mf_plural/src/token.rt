@@ -1,7 +1,7 @@
 //! The tokens of a rule.
 
 ghost use Rattle.std.specs.Prelude.{◌≡◌};
-ghost use Rattle.mf_plural.specs.TokenReading.{token_of};
+ghost use Rattle.mf_plural.specs.Computed.{token_of};
 ghost use Rattle.mf_plural.specs.Grammar as grammar;
 
 use crate::rule::{Category, Operand};

@@ -4,8 +4,8 @@ ghost use Rattle.std.specs.Prelude.{◌≡◌, IsTrue};
 ghost use Rattle.std.specs.Char.{is_ascii_digit};
 ghost use Rattle.std.specs.List.{list_all};
 ghost use Rattle.std.specs.Str.Parse.{AllDigits, digits_value};
-ghost use Rattle.mf_plural.specs.TokenReading as computed;
-ghost use Rattle.mf_plural.specs.Tokens as tokens;
+ghost use Rattle.mf_plural.specs.Computed as computed;
+ghost use Rattle.mf_plural.specs.Grammar as grammar;
 
 use crate::rule::{Category, Operand};
 use crate::token::Token;
@@ -17,20 +17,14 @@ const MOST_DIGITS: usize = 18;
 pub fn category_word(text: &[u8]) -> Option<Category>
     ensures { result ≡ computed.category_of text.now }
 {
-    if text == b"zero".as_slice() {
-        Some(Category::Zero)
-    } else if text == b"one".as_slice() {
-        Some(Category::One)
-    } else if text == b"two".as_slice() {
-        Some(Category::Two)
-    } else if text == b"few".as_slice() {
-        Some(Category::Few)
-    } else if text == b"many".as_slice() {
-        Some(Category::Many)
-    } else if text == b"other".as_slice() {
-        Some(Category::Other)
-    } else {
-        None
+    match text {
+        b"zero" => Some(Category::Zero),
+        b"one" => Some(Category::One),
+        b"two" => Some(Category::Two),
+        b"few" => Some(Category::Few),
+        b"many" => Some(Category::Many),
+        b"other" => Some(Category::Other),
+        _ => None,
     }
 }
 
@@ -38,24 +32,15 @@ pub fn category_word(text: &[u8]) -> Option<Category>
 pub fn operand_letter(text: &[u8]) -> Option<Operand>
     ensures { result ≡ computed.operand_of text.now }
 {
-    if text == b"n".as_slice() {
-        Some(Operand::Number)
-    } else if text == b"i".as_slice() {
-        Some(Operand::Whole)
-    } else if text == b"v".as_slice() {
-        Some(Operand::FractionLen)
-    } else if text == b"w".as_slice() {
-        Some(Operand::TrimmedLen)
-    } else if text == b"f".as_slice() {
-        Some(Operand::Fraction)
-    } else if text == b"t".as_slice() {
-        Some(Operand::Trimmed)
-    } else if text == b"c".as_slice() {
-        Some(Operand::Exponent)
-    } else if text == b"e".as_slice() {
-        Some(Operand::Exponent)
-    } else {
-        None
+    match text {
+        b"n" => Some(Operand::Number),
+        b"i" => Some(Operand::Whole),
+        b"v" => Some(Operand::FractionLen),
+        b"w" => Some(Operand::TrimmedLen),
+        b"f" => Some(Operand::Fraction),
+        b"t" => Some(Operand::Trimmed),
+        b"c" | b"e" => Some(Operand::Exponent),
+        _ => None,
     }
 }
 
@@ -63,24 +48,16 @@ pub fn operand_letter(text: &[u8]) -> Option<Operand>
 pub fn mark(text: &[u8]) -> Option<Token>
     ensures { result ≡ computed.mark_of text.now }
 {
-    if text == b"and".as_slice() {
-        Some(Token::And)
-    } else if text == b"or".as_slice() {
-        Some(Token::Or)
-    } else if text == b":".as_slice() {
-        Some(Token::Colon)
-    } else if text == b"%".as_slice() {
-        Some(Token::Percent)
-    } else if text == b"=".as_slice() {
-        Some(Token::Equals)
-    } else if text == b"!=".as_slice() {
-        Some(Token::Differs)
-    } else if text == b",".as_slice() {
-        Some(Token::Comma)
-    } else if text == b"..".as_slice() {
-        Some(Token::Dots)
-    } else {
-        None
+    match text {
+        b"and" => Some(Token::And),
+        b"or" => Some(Token::Or),
+        b":" => Some(Token::Colon),
+        b"%" => Some(Token::Percent),
+        b"=" => Some(Token::Equals),
+        b"!=" => Some(Token::Differs),
+        b"," => Some(Token::Comma),
+        b".." => Some(Token::Dots),
+        _ => None,
     }
 }
 
@@ -97,7 +74,7 @@ pub fn value(text: &[u8]) -> Option<u64>
 
 /// Whether a piece is 1 to 18 digits.
 fn is_value(text: &[u8]) -> bool
-    ensures { result ≡ tokens.is_value text.now }
+    ensures { result ≡ grammar.is_value text.now }
 {
     text.len() >= 1 && text.len() <= MOST_DIGITS && are_digits(text)
 }
@@ -111,7 +88,7 @@ fn are_digits(text: &[u8]) -> bool
 
 /// The number that so few digits write.
 fn digits_value(digits: &[u8]) -> u64
-    requires { IsTrue (tokens.is_value digits.now) }
+    requires { IsTrue (grammar.is_value digits.now) }
     ensures { result ≡ digits_value 10 digits.now }
 {
     let mut number: u64 = 0;

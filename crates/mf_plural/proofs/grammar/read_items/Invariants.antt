@@ -2,8 +2,7 @@
 use Rattle.std.proofs.Common.{◌≡◌, ◌++◌}
 use Rattle.std.specs.Option.{option_copied, option_map}
 use Rattle.mf_plural.specs.Cuts.{between_rest, rest_len}
-use Rattle.mf_plural.specs.Reading.{item_of, items_of}
-use Rattle.mf_plural.specs.TokenReading.{all_of}
+use Rattle.mf_plural.specs.Computed.{item_of, items_of, all_of}
 use Rattle.mf_plural.specs.declared.token.Separator.TheVariants.{BetweenItems}
 use Rattle.mf_plural.proofs.grammar.read_items.Given as goal
 

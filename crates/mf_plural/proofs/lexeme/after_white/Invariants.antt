@@ -1,6 +1,6 @@
 -- Only white space is passed.
 use Rattle.std.proofs.Common.{◌≡◌, ◌≤◌, length}
-use Rattle.mf_plural.specs.Lexemes.{lexemes}
+use Rattle.mf_plural.specs.Computed.{lexemes}
 use Rattle.mf_plural.proofs.lexeme.after_white.Given as goal
 
 abbrev pub invariant-loop-first : goal.invariant-loop-first

@@ -1,6 +1,6 @@
 -- The bytes so far are joined.
 use Rattle.std.proofs.Common.{◌≡◌, ◌<◌, ◌≤◌, ◌+◌, ◌-◌, ℕ, length, true, get_or}
-use Rattle.mf_plural.specs.Lexemes.{are_joined}
+use Rattle.mf_plural.specs.Computed.{are_joined}
 use Rattle.mf_plural.proofs.lexeme.lexeme_len.Given as goal
 
 abbrev pub invariant-loop-len : goal.invariant-loop-len

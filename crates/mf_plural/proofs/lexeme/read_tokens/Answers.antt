@@ -1,7 +1,6 @@
 use Rattle.std.proofs.Common.{◌≡◌, ◌∙◌, ◌++◌, ◌∷◌, ap, sym, drop}
 use Rattle.std.specs.Option.{option_map}
-use Rattle.mf_plural.specs.Lexemes.{lexemes}
-use Rattle.mf_plural.specs.TokenReading.{all_of, token_of, tokens_of}
+use Rattle.mf_plural.specs.Computed.{lexemes, all_of, token_of, tokens_of}
 use Rattle.mf_plural.proofs.Gathering.{all_more}
 use Rattle.mf_plural.proofs.lexeme.read_tokens.Goals as goal
 use Rattle.mf_plural.proofs.lexeme.read_tokens.Goals.{After-of}

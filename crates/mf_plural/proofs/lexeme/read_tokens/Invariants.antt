@@ -2,7 +2,7 @@
 use Rattle.std.proofs.Common.{◌≡◌, ◌++◌, length}
 use Rattle.std.specs.Option.{option_map}
 use Rattle.mf_plural.specs.Cuts.{BeginsWithToken}
-use Rattle.mf_plural.specs.TokenReading.{tokens_of}
+use Rattle.mf_plural.specs.Computed.{tokens_of}
 use Rattle.mf_plural.proofs.lexeme.read_tokens.Given as goal
 
 abbrev pub invariant-loop-rest : goal.invariant-loop-rest

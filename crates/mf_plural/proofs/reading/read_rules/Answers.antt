@@ -1,5 +1,5 @@
 use Rattle.std.proofs.Common.{◌∙◌, ◌+◌, ◌≤◌, [], ap, sym, subst, length}
-use Rattle.mf_plural.specs.Reading.{new_rule}
+use Rattle.mf_plural.specs.Computed.{new_rule}
 use Rattle.mf_plural.proofs.Numbering.{blank_texts, front_bad, front_computed, front_more, front_numbered, front_short, front_start, front_whole, ReadsFront}
 use Rattle.mf_plural.proofs.reading.read_rules.Goals as goal
 
