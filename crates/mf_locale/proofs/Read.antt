@@ -1,14 +1,16 @@
 -- A record that was read is the one that is computed.
 use Rattle.std.proofs.Common.{◌≡◌, ◌∙◌, ◌&&◌, ℕ, Bool, true, false, List, Some, Ok, ap, sym}
+use Rattle.std.specs.Prelude.{IsTrue}
 use Rattle.std.proofs.lemmas.Bool.{false≢true}
 use Rattle.std.proofs.Math.Bool.{Bool-set}
 use Rattle.serde_json.specs.Data.{Data}
 use Rattle.mf_text.specs.declared.direction.Direction.{Direction}
 use Rattle.mf_plural.specs.declared.rule.Rule.{Rule}
 use Rattle.mf_locale.specs.RecordFields.{direction_field, rules_field, size_by, size_field, size_from, symbol_field, version_field}
-use Rattle.mf_locale.specs.RecordReading.{all_fit, record_of, record_with}
-use Rattle.mf_locale.specs.Sizes.{is_size}
+use Rattle.mf_locale.specs.RecordReading.{record_of, record_with}
+use Rattle.mf_numfmt.specs.Sizes.{is_size}
 use Rattle.mf_locale.specs.declared.field.RecordField.TheVariants.{Decimal, Group, Minus, Plus, Primary, Secondary, MinGroup, Plural, Ordinal}
+use Rattle.mf_locale.specs.declared.record.LocaleRecord.{LocaleRecord}
 use Rattle.mf_locale.specs.declared.size.GroupSize.{GroupSize}
 
 size_checked : (number : ℕ) (fits : is_size number ≡ true) (test : Bool) (is : is_size number ≡ test)
@@ -20,25 +22,38 @@ size_checked number fits false is = absurd (false≢true (sym is ∙ fits))
 pub size_is : (number : ℕ) (fits : is_size number ≡ true) → Some (record { digits = number; fits = fits }) ≡ size_from number
 size_is number fits = size_checked number fits (is_size number) _
 
--- what shows the sizes of the layout to be sizes makes no difference
+-- the record of these parts, whose sizes are shown to fit by these proofs
+abbrev record_by : Direction → (decimal group minus plus : List ℕ) (primary secondary min_group : GroupSize) (plural ordinal : List Rule)
+    → IsTrue (is_size primary.digits) → IsTrue (is_size secondary.digits) → IsTrue (is_size min_group.digits) → LocaleRecord
+record_by dir decimal group minus plus primary secondary min_group plural ordinal fits fits_too also_fits = record {
+  dir = dir;
+  layout =
+      record {
+        decimal = decimal;
+        group = group;
+        minus = minus;
+        plus = plus;
+        primary = primary.digits;
+        secondary = secondary.digits;
+        min_group = min_group.digits;
+        primary_fits = fits;
+        secondary_fits = fits_too;
+        min_group_fits = also_fits;
+      };
+  plural = plural;
+  ordinal = ordinal;
+}
+
+-- what shows the sizes to fit makes no difference
 pub same_record : (dir : Direction) (decimal group minus plus : List ℕ) (primary secondary min_group : GroupSize) (plural ordinal : List Rule)
-    (valid : (is_size primary.digits && (is_size secondary.digits && is_size min_group.digits)) ≡ true)
+    (fits : IsTrue (is_size primary.digits)) (fits_too : IsTrue (is_size secondary.digits)) (also_fits : IsTrue (is_size min_group.digits))
     → record_with dir decimal group minus plus primary secondary min_group plural ordinal
-    ≡ record {
-      dir = dir;
-      layout = record { decimal = decimal; group = group; minus = minus; plus = plus; primary = primary.digits; secondary = secondary.digits; min_group = min_group.digits };
-      plural = plural;
-      ordinal = ordinal;
-      valid = valid;
-    }
-same_record dir decimal group minus plus primary secondary min_group plural ordinal valid =
-    ap (λ e. record {
-      dir = dir;
-      layout = record { decimal = decimal; group = group; minus = minus; plus = plus; primary = primary.digits; secondary = secondary.digits; min_group = min_group.digits };
-      plural = plural;
-      ordinal = ordinal;
-      valid = e;
-    }) (Bool-set _ _ (all_fit primary secondary min_group) valid)
+    ≡ record_by dir decimal group minus plus primary secondary min_group plural ordinal fits fits_too also_fits
+same_record dir decimal group minus plus primary secondary min_group plural ordinal fits fits_too also_fits =
+    let by = record_by dir decimal group minus plus primary secondary min_group plural ordinal in
+    ap (λ e. by e secondary.fits min_group.fits) (Bool-set _ _ primary.fits fits)
+    ∙ ap (λ e. by fits e min_group.fits) (Bool-set _ _ secondary.fits fits_too)
+    ∙ ap (λ e. by fits fits_too e) (Bool-set _ _ min_group.fits also_fits)
 
 -- where each field has something, the record has all of it
 pub record_is : (value : Data) (dir : Direction) (decimal group minus plus : List ℕ) (primary secondary min_group : GroupSize) (plural ordinal : List Rule)

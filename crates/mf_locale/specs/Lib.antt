@@ -1,6 +1,5 @@
 pub mod Tag
 pub mod Chain
-pub mod Sizes
 pub mod Records
 pub mod Refusals
 pub mod FieldNames

@@ -5,10 +5,10 @@ use Rattle.serde_json.specs.Data.{Data}
 use Rattle.serde_json.specs.Find.{get, as_number, as_str, as_u64}
 use Rattle.mf_text.specs.declared.direction.Direction.{Direction}
 use Rattle.mf_text.specs.declared.direction.Direction.TheVariants.{Ltr, Rtl, Unknown}
-use Rattle.mf_plural.specs.Rules.{rules_of}
+use Rattle.mf_plural.specs.Computed.{rules_of}
 use Rattle.mf_plural.specs.declared.rule.Rule.{Rule}
 use Rattle.mf_locale.specs.FieldNames.{name_of}
-use Rattle.mf_locale.specs.Sizes.{is_size}
+use Rattle.mf_numfmt.specs.Sizes.{is_size}
 use Rattle.mf_locale.specs.declared.field.RecordField.{RecordField}
 use Rattle.mf_locale.specs.declared.field.RecordField.TheVariants.{Version, Dir}
 use Rattle.mf_locale.specs.declared.size.GroupSize.{GroupSize}

@@ -1,11 +1,9 @@
 -- The locale record that a JSON value is, or why it is none.
-use Rattle.std.specs.Prelude.{◌≡◌, ◌&&◌, ℕ, List, true, Result, Ok, Err}
-use Rattle.std.proofs.Common.{ap, ◌∙◌}
+use Rattle.std.specs.Prelude.{◌≡◌, ℕ, List, Result, Ok, Err}
 use Rattle.serde_json.specs.Data.{Data}
 use Rattle.mf_text.specs.declared.direction.Direction.{Direction}
 use Rattle.mf_plural.specs.declared.rule.Rule.{Rule}
 use Rattle.mf_locale.specs.RecordFields.{RecordFault, bad_field, bad_rule, version_field, direction_field, symbol_field, size_field, rules_field}
-use Rattle.mf_locale.specs.Sizes.{is_size}
 use Rattle.mf_locale.specs.declared.error.LocaleError.{LocaleError}
 use Rattle.mf_locale.specs.declared.error.LocaleError.TheVariants as error
 use Rattle.mf_locale.specs.declared.field.RecordField.TheVariants.{Decimal, Group, Minus, Plus, Primary, Secondary, MinGroup, Plural, Ordinal}
@@ -16,10 +14,6 @@ use Rattle.mf_locale.specs.declared.size.GroupSize.{GroupSize}
 abbrev pub and_then : {X Y : Type 0} → Result X RecordFault → (X → Result Y RecordFault) → Result Y RecordFault
 and_then (Ok x) next = next x
 and_then (Err fault) next = Err fault
-
--- three sizes are sizes
-abbrev pub all_fit : (a b c : GroupSize) → (is_size a.digits && (is_size b.digits && is_size c.digits)) ≡ true
-all_fit a b c = ap (λ fits. fits && (is_size b.digits && is_size c.digits)) a.fits ∙ ap (λ fits. fits && is_size c.digits) b.fits ∙ c.fits
 
 -- the record of what its fields have
 abbrev pub record_with : Direction → (decimal group minus plus : List ℕ) (primary secondary min_group : GroupSize) (plural ordinal : List Rule) → LocaleRecord
@@ -34,10 +28,12 @@ record_with dir decimal group minus plus primary secondary min_group plural ordi
         primary = primary.digits;
         secondary = secondary.digits;
         min_group = min_group.digits;
+        primary_fits = primary.fits;
+        secondary_fits = secondary.fits;
+        min_group_fits = min_group.fits;
       };
   plural = plural;
   ordinal = ordinal;
-  valid = all_fit primary secondary min_group;
 }
 
 -- the record that a JSON value is, or the fault at the first field that has one; fields of other names are passed over

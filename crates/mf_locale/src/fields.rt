@@ -5,7 +5,7 @@ ghost use Rattle.std.specs.Option.{option_copied};
 ghost use Rattle.serde_json.specs.View.{view};
 ghost use Rattle.mf_locale.specs.RecordFields as fields;
 ghost use Rattle.mf_locale.specs.RecordReading.{IsDue};
-ghost use Rattle.mf_locale.specs.Sizes.{is_size as size_test};
+ghost use Rattle.mf_numfmt.specs.Sizes.{is_size as size_test};
 
 use crate::error::LocaleError;
 use crate::field::RecordField;

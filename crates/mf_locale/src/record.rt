@@ -1,6 +1,3 @@
-ghost use Rattle.std.specs.Prelude.{◌≡◌, true};
-ghost use Rattle.mf_locale.specs.Sizes.{has_sizes};
-
 use mf_numfmt::Layout;
 use mf_plural::Rules;
 use mf_text::Direction;
@@ -16,5 +13,4 @@ pub struct LocaleRecord {
     pub plural: Rules,
     /// The plural rules for ordinal numbers.
     pub ordinal: Rules,
-    ghost valid: { has_sizes layout ≡ true },
 }
