@@ -1,14 +1,11 @@
 pub mod Cut
-pub mod Ordered
 pub mod ItemSearch
 pub mod Placed
 pub mod Searched
 pub mod Pushed
 pub mod Growth
 pub mod EditionLaws
-pub mod Merged
 pub mod InPlace
-pub mod Places
-pub mod PlaceSearch
-pub mod PlacesAscend
+pub mod RecordChain
+pub mod RecordSearch
 pub mod Sized

@@ -6,12 +6,13 @@ use Rattle.std.proofs.lemmas.Bool.Decides.{nat_tests}
 use Rattle.std.proofs.lemmas.List.{get_or-map, length-map}
 use Rattle.std.proofs.lemmas.List.Sums.{position_or_len_is}
 use Rattle.std.specs.Cmp.{Equal-is, IsTotalOrder}
-use Rattle.std.specs.Cmp.Lexicographic.{pointwise, bytes_decides}
+use Rattle.std.specs.Cmp.Lexicographic.{pointwise}
 use Rattle.std.specs.List.{position}
 use Rattle.std.specs.Ordering.{ordering_then, is_eq}
 use Rattle.std.specs.declared.cmp.Ordering.{Ordering}
 use Rattle.std.specs.declared.cmp.Ordering.TheVariants.{Less, Equal, Greater}
 use Rattle.mf_text.specs.Order.{byte_cmp, byte_cmp_total, byte_cmp_ties}
+use Rattle.mf_text.proofs.Pairs.{byte_equal}
 use Rattle.mf_edition.specs.Items.{Item}
 use Rattle.mf_edition.specs.Edition.{is_named}
 use Rattle.mf_edition.specs.Order.{name_at, name_cmp, name_of, names_of, IsFound, IsGap, IsOrder, Name}
@@ -36,9 +37,6 @@ then_equal : (o p : Ordering) → ordering_then o p ≡ Equal → (o ≡ Equal) 
 then_equal Less p e = cc
 then_equal Equal p e = (refl, e)
 then_equal Greater p e = cc
-
-pub byte_equal : (a b : List ℕ) → byte_cmp a b ≡ Equal → a ≡ b
-byte_equal a b e = (bytes_decides a b).0 (byte_cmp_ties a b ∙ ap is_eq e)
 
 pub same_name : (a b : Name) → name_cmp a b ≡ Equal → a ≡ b
 same_name a b e =

@@ -7,32 +7,29 @@ use Rattle.std.proofs.Math.Seq.{get_or-append_seam, map-set_same}
 use Rattle.std.specs.List.{insert}
 use Rattle.std.specs.Ordering.{ordering_reverse}
 use Rattle.std.specs.declared.cmp.Ordering.TheVariants.{Less, Greater}
-use Rattle.mf_text.specs.declared.pair.Pair.{Pair}
-use Rattle.mf_edition.specs.Items.{Item, item_of}
+use Rattle.mf_edition.specs.Items.{Item}
 use Rattle.mf_edition.specs.Edition.{is_named, put}
 use Rattle.mf_edition.specs.Order.{name_at, name_cmp, name_of, names_of, IsGap, IsOrder, Name}
-use Rattle.mf_edition.proofs.Placed.{has_name, name_cmp_total, no_item}
+use Rattle.mf_edition.proofs.Placed.{name_cmp_total, no_item}
 
--- a message that is there gets the new source
-pub put_found : (items : List Item) (tag : List ℕ) (message : Pair) (at : ℕ) → at < length items
-    → ((k : ℕ) → k < at → is_named tag message.name (get_or items k no_item) ≡ false) → is_named tag message.name (get_or items at no_item) ≡ true
-    → put items tag message ≡ set items at (item_of tag message)
-put_found [] tag message at inside before here = absurd (omega arith)
-put_found (item ∷ items) tag message zero inside before here =
-    ap (λ b. cond b (record item { source = message.value } ∷ items) (item ∷ put items tag message)) here
-    ∙ ap (λ name. record { tag = name.0; id = name.1; source = message.value } ∷ items) (has_name tag message.name item here)
-put_found (item ∷ items) tag message (suc at) inside before here =
-    ap (λ b. cond b (record item { source = message.value } ∷ items) (item ∷ put items tag message)) (before 0 (omega arith))
-    ∙ ap (λ rest. item ∷ rest) (put_found items tag message at (omega arith) (λ k below. before (suc k) (omega arith)) here)
+-- a message that is there is replaced
+pub put_found : (items : List Item) (new : Item) (at : ℕ) → at < length items
+    → ((k : ℕ) → k < at → is_named new.tag new.id (get_or items k no_item) ≡ false) → is_named new.tag new.id (get_or items at no_item) ≡ true
+    → put items new ≡ set items at new
+put_found [] new at inside before here = absurd (omega arith)
+put_found (item ∷ items) new zero inside before here = ap (λ b. cond b (new ∷ items) (item ∷ put items new)) here
+put_found (item ∷ items) new (suc at) inside before here =
+    ap (λ b. cond b (new ∷ items) (item ∷ put items new)) (before 0 (omega arith))
+    ∙ ap (λ rest. item ∷ rest) (put_found items new at (omega arith) (λ k below. before (suc k) (omega arith)) here)
 
 -- a new one goes to the end
-pub put_gap : (items : List Item) (tag : List ℕ) (message : Pair)
-    → ((k : ℕ) → k < length items → is_named tag message.name (get_or items k no_item) ≡ false)
-    → put items tag message ≡ items ++ item_of tag message ∷ []
-put_gap [] tag message none = refl
-put_gap (item ∷ items) tag message none =
-    ap (λ b. cond b (record item { source = message.value } ∷ items) (item ∷ put items tag message)) (none 0 (omega arith))
-    ∙ ap (λ rest. item ∷ rest) (put_gap items tag message (λ k inside. none (suc k) (omega arith)))
+pub put_gap : (items : List Item) (new : Item)
+    → ((k : ℕ) → k < length items → is_named new.tag new.id (get_or items k no_item) ≡ false)
+    → put items new ≡ items ++ new ∷ []
+put_gap [] new none = refl
+put_gap (item ∷ items) new none =
+    ap (λ b. cond b (new ∷ items) (item ∷ put items new)) (none 0 (omega arith))
+    ∙ ap (λ rest. item ∷ rest) (put_gap items new (λ k inside. none (suc k) (omega arith)))
 
 -- the names stay where an item is replaced by one of the same name
 pub names_kept : (items : List Item) (at : ℕ) (item : Item) → name_of item ≡ name_of (get_or items at no_item) → names_of (set items at item) ≡ names_of items
@@ -169,16 +166,3 @@ module _ (names : List Name) (order : List ℕ) (name : Name) (at : ℕ) (o : Is
   pub order_pushed : IsOrder (names ++ name ∷ []) (insert order at (length names))
   unfolding more longer
   order_pushed = record { below = all_below; ascending = in_order; complete = all_there }
-
-  -- what is below the new name, and the new name, are below each name above it
-  pub below_next : (next : Name) → name_cmp name next ≡ Less → (k : ℕ) → k ≤ at → name_cmp (name_at (names ++ name ∷ []) (get_or (insert order at (length names)) k 0)) next ≡ Less
-  unfolding more longer
-  below_next next less k within =
-      ⊎_elim
-      (λ k_before.
-      ap (λ n. name_cmp n next) (name_before k k_before)
-      ∙ name_cmp_total.trans (name_at names (get_or order k 0)) name next (gap.before k k_before) less)
-      (λ k_later.
-      let k_there : k ≡ at = omega arith in
-      ap (λ p. name_cmp (name_at more (get_or longer p 0)) next) k_there ∙ ap (λ n. name_cmp n next) name_new ∙ less)
-      (cases_lt k at)

@@ -7,7 +7,7 @@ use Rattle.std.specs.declared.cmp.Ordering.{Ordering}
 use Rattle.std.specs.declared.sync.Arc.{Arc}
 use Rattle.mf_text.specs.Order.{byte_cmp}
 use Rattle.mf_text.specs.declared.pair.Pair.{Pair}
-use Rattle.mf_edition.specs.Ordered.{put_ordered, LacksAt, StandsAt}
+use Rattle.mf_text.specs.Ordered.{put_ordered, LacksAt, StandsAt}
 use Rattle.mf_edition.specs.Items.{Item, item_of, message_of}
 
 -- a publication of messages: their tag, and the messages in the byte order of their ids

@@ -1,45 +1,45 @@
 -- A log of changes, and the editions that it makes: edition k is the fold of its first k entries over the empty one.
-use Rattle.std.specs.Prelude.{◌≡◌, ◌==◌, ◌+◌, ◌<◌, ◌≤◌, ◌^◌, ◌&&◌, ℕ, Bool, List, [], ◌∷◌, ◌++◌, length, map, take, if◌then◌else◌}
+use Rattle.std.specs.Prelude.{◌≡◌, ◌==◌, ◌+◌, ◌<◌, ◌≤◌, ◌^◌, ◌&&◌, ℕ, Bool, Option, None, List, [], ◌∷◌, ◌++◌, length, map, option_map, position, take, if◌then◌else◌}
 use Rattle.std.specs.List.{IsDistinct}
 use Rattle.std.specs.Cmp.Lexicographic.{pointwise}
-use Rattle.mf_text.specs.declared.pair.Pair.{Pair}
+use Rattle.std.specs.Option.{option_or}
 use Rattle.mf_edition.specs.declared.change.Change.{Change}
 use Rattle.mf_edition.specs.declared.change.Change.TheVariants.{Catalogue, Locale}
 use Rattle.mf_edition.specs.declared.change.Entry.{Entry}
-use Rattle.mf_edition.specs.Items.{Item}
-use Rattle.mf_edition.specs.declared.place.Place.{Place}
-use Rattle.mf_edition.specs.Places.{is_for, put_place}
+use Rattle.mf_edition.specs.Items.{Item, item_of}
+use Rattle.mf_edition.specs.Records.{put_record}
+use Rattle.mf_edition.specs.declared.record.TaggedRecord.{TaggedRecord}
+use Rattle.mf_edition.specs.declared.item.Found.{Found}
 
--- what an edition is: its number, its messages in the order of their places, and the records of tags in the order of the tags
+-- what an edition is: its number, its messages in the order of their indices, and the records of tags
 pub record EditionState : Type 0 where
   pub number : ℕ
   pub items : List Item
-  pub places : List Place
+  pub records : List TaggedRecord
 
 -- the item is that of this tag and this id
 abbrev pub is_named : List ℕ → List ℕ → Item → Bool
 is_named tag id item = pointwise ◌==◌ item.tag tag && pointwise ◌==◌ item.id id
 
--- puts a message into the list of messages: one that is there keeps its place and gets the new source, a new one goes to the end
-abbrev pub put : List Item → List ℕ → Pair → List Item
-put [] tag message = record { tag = tag; id = message.name; source = message.value } ∷ []
-put (item ∷ items) tag message =
-    if is_named tag message.name item then (record item { source = message.value } ∷ items) else (item ∷ put items tag message)
+-- the messages with one more: it takes the place of that of its tag and its id, or goes to the end
+abbrev pub put : List Item → Item → List Item
+put [] new = new ∷ []
+put (item ∷ items) new = if is_named new.tag new.id item then new ∷ items else (item ∷ put items new)
 
--- puts messages one after the other
-abbrev pub put_all : List Item → List ℕ → List Pair → List Item
-put_all items tag [] = items
-put_all items tag (message ∷ messages) = put_all (put items tag message) tag messages
+-- the messages with more, put in one after the other
+abbrev pub put_all : List Item → List Item → List Item
+put_all items [] = items
+put_all items (new ∷ more) = put_all (put items new) more
 
--- the list of messages after a change
+-- the messages after a change
 abbrev pub changed : List Item → Change → List Item
-changed items (Catalogue catalogue) = put_all items catalogue.tag catalogue.messages
+changed items (Catalogue catalogue) = put_all items (map (item_of catalogue.tag) catalogue.messages)
 changed items (Locale tag place size) = items
 
--- the records of tags after a change
-abbrev pub placed : List Place → Change → List Place
-placed places (Catalogue catalogue) = places
-placed places (Locale tag place size) = put_place places (record { tag = tag; place = place })
+-- the records after a change
+abbrev pub recorded : List TaggedRecord → Change → List TaggedRecord
+recorded records (Catalogue catalogue) = records
+recorded records (Locale tag place size) = put_record records (record { tag = tag; shared = place })
 
 -- the number of messages that a change has
 abbrev pub message_count : Change → ℕ
@@ -47,12 +47,12 @@ message_count (Catalogue catalogue) = length catalogue.messages
 message_count (Locale tag place size) = 0
 
 abbrev pub empty_edition : EditionState
-empty_edition = record { number = 0; items = []; places = [] }
+empty_edition = record { number = 0; items = []; records = [] }
 
 -- the edition after one more change
 abbrev pub next_edition : EditionState → Change → EditionState
 next_edition edition change =
-    record { number = edition.number + 1; items = changed edition.items change; places = placed edition.places change }
+    record { number = edition.number + 1; items = changed edition.items change; records = recorded edition.records change }
 
 -- the edition after entries
 abbrev pub edition_after : EditionState → List Entry → EditionState
@@ -62,6 +62,16 @@ edition_after edition (entry ∷ entries) = edition_after (next_edition edition 
 -- edition k of a log
 abbrev pub edition_of : List Entry → ℕ → EditionState
 edition_of log k = edition_after empty_edition (take k log)
+
+-- the edition of the whole log
+abbrev pub newest_edition : List Entry → EditionState
+newest_edition log = edition_after empty_edition log
+
+-- the message of an id under the first of these tags that has one: that tag, and the index of the message
+abbrev pub found_along : List Item → List ℕ → List (List ℕ) → Option Found
+found_along items id [] = None
+found_along items id (tag ∷ tags) =
+    option_or (option_map (λ index. record { tag = tag; index = index }) (position (is_named tag id) items)) (found_along items id tags)
 
 -- there are numbers for the edition that a change makes and for each of its messages
 pub record HasRoom (edition : EditionState) (change : Change) : Type 0 where
@@ -76,14 +86,6 @@ is_same_name a b = pointwise ◌==◌ a.0 b.0 && pointwise ◌==◌ a.1 b.1
 abbrev pub HasDistinctNames : List Item → Type 0
 HasDistinctNames items = IsDistinct is_same_name (map (λ item. (item.tag, item.id)) items)
 
--- no two records are of one tag
-abbrev pub HasDistinctTags : List Place → Type 0
-HasDistinctTags places = IsDistinct (λ a b. is_for b.tag a) places
-
--- in no edition are two records of one tag
-abbrev pub EditionsHaveDistinctTags : Type 0
-EditionsHaveDistinctTags = (log : List Entry) (k : ℕ) → HasDistinctTags (edition_of log k).places
-
 -- in no edition do two messages have one tag and one id
 abbrev pub EditionsHaveDistinctNames : Type 0
 EditionsHaveDistinctNames = (log : List Entry) (k : ℕ) → HasDistinctNames (edition_of log k).items
@@ -92,9 +94,13 @@ EditionsHaveDistinctNames = (log : List Entry) (k : ℕ) → HasDistinctNames (e
 abbrev pub EditionsAreNumbered : Type 0
 EditionsAreNumbered = (log : List Entry) (k : ℕ) → k ≤ length log → (edition_of log k).number ≡ k
 
--- the edition of a log with one more entry is the one before it, changed by that entry
+-- edition k of a log of k entries is that of the whole log
+abbrev pub NewestIsLast : Type 0
+NewestIsLast = (log : List Entry) → edition_of log (length log) ≡ newest_edition log
+
+-- the newest edition of a log with one more entry is the one before it, changed by that entry
 abbrev pub EditionsFollow : Type 0
-EditionsFollow = (log : List Entry) (entry : Entry) → edition_of (log ++ entry ∷ []) (length log + 1) ≡ next_edition (edition_of log (length log)) entry.change
+EditionsFollow = (log : List Entry) (entry : Entry) → newest_edition (log ++ entry ∷ []) ≡ next_edition (newest_edition log) entry.change
 
 -- an edition of a log is that of each longer log
 abbrev pub EditionsStay : Type 0

@@ -1,11 +1,8 @@
-pub mod Ordered
 pub mod Items
 pub mod Catalogues
 pub mod Edition
-pub mod Messages
-pub mod Places
-pub mod PlaceOrder
+pub mod Records
+pub mod RecordOrder
 pub mod Sizes
-pub mod Views
 pub mod Order
 pub mod Kept

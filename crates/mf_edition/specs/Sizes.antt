@@ -1,11 +1,15 @@
 -- The bytes that changes count for, and which changes a log accepts.
-use Rattle.std.specs.Prelude.{◌≡◌, ◌≤◌, ◌+◌, ◌-◌, ◌^◌, ℕ, Option, None, Some, List, [], ◌∷◌, encode_utf8_all, length, min, nat_le, if◌then◌else◌}
+use Rattle.std.specs.Prelude.{◌≡◌, ◌<◌, ◌≤◌, ◌+◌, ◌-◌, ◌^◌, ℕ, Option, None, Some, List, [], ◌∷◌, encode_utf8_all, length, max, min, nat_le, take, if◌then◌else◌}
 use Rattle.mf_text.specs.declared.pair.Pair.{Pair}
 use Rattle.mf_edition.specs.declared.change.Change.{Change}
 use Rattle.mf_edition.specs.declared.change.Change.TheVariants.{Catalogue, Locale}
 use Rattle.mf_edition.specs.declared.change.Entry.{Entry}
 use Rattle.mf_edition.specs.declared.error.PublishError.{PublishError}
-use Rattle.mf_edition.specs.declared.error.PublishError.TheVariants.{EditionsFull, StoreFull, OutOfMemory}
+use Rattle.mf_edition.specs.declared.error.PublishError.TheVariants.{OutOfMemory}
+use Rattle.mf_edition.specs.declared.error.PublishError.TheVariants as error
+use Rattle.mf_edition.specs.declared.error.Refusal.{Refusal}
+use Rattle.mf_edition.specs.declared.error.Refusal.TheVariants.{EditionsFull, StoreFull}
+use Rattle.mf_edition.specs.Edition.{message_count}
 
 -- the bytes of a text in UTF-8
 abbrev pub byte_count : List ℕ → ℕ
@@ -20,10 +24,14 @@ messages_size (message ∷ messages) = byte_count message.name + byte_count mess
 abbrev pub shown : ℕ → ℕ
 shown size = min size (2 ^ 64 - 1)
 
--- the size of a change: 64 bytes, and those of the texts that it has
+-- the least size of a change
+abbrev pub least_size : ℕ
+least_size = 64
+
+-- the size of a change: 64 bytes, and those of the texts that it has; a locale change keeps its own
 abbrev pub size_of : Change → ℕ
-size_of (Catalogue catalogue) = shown (64 + byte_count catalogue.tag + messages_size catalogue.messages)
-size_of (Locale tag place size) = size
+size_of (Catalogue catalogue) = shown (least_size + byte_count catalogue.tag + messages_size catalogue.messages)
+size_of (Locale tag place size) = max least_size size
 
 -- the sizes of the changes of a log together
 abbrev pub used_by : List Entry → ℕ
@@ -39,18 +47,33 @@ abbrev pub most_bytes : ℕ
 most_bytes = 268435456
 
 -- why a log doesn't accept a change, if it doesn't: it has all the entries that it may have, or else there are too few bytes left
-abbrev pub refusal_of : List Entry → Change → Option PublishError
+abbrev pub refusal_of : List Entry → Change → Option Refusal
 refusal_of log change =
     if nat_le most_entries (length log) then Some (EditionsFull (length log)) else
     (if nat_le (used_by log + size_of change) most_bytes then None else Some (StoreFull (used_by log) (size_of change)))
 
+-- the error that a refusal is
+abbrev pub refused : Refusal → PublishError
+refused (EditionsFull entries) = error.EditionsFull entries
+refused (StoreFull used size) = error.StoreFull used size
+
 -- the error that a change gets: the refusal, where there is one, and else want of memory
-abbrev pub IsDue : Option PublishError → PublishError → Type 0
-IsDue (Some refusal) error = error ≡ refusal
+abbrev pub IsDue : Option Refusal → PublishError → Type 0
+IsDue (Some refusal) error = error ≡ refused refusal
 IsDue None error = error ≡ OutOfMemory
 
--- the log has no more entries and no more bytes than it may have, and so many bytes are counted for it
+-- the messages of the changes of a log together
+abbrev pub messages_by : List Entry → ℕ
+messages_by [] = 0
+messages_by (entry ∷ entries) = message_count entry.change + messages_by entries
+
+-- the log has no more entries and no more bytes than it may have, so many bytes are counted for it, and no fewer than messages
 pub record IsWithin (log : List Entry) (used : ℕ) : Type 0 where
   pub few : length log ≤ most_entries
   pub exact : used ≡ used_by log
   pub small : used ≤ most_bytes
+  pub counted : messages_by log ≤ used_by log
+
+-- the bytes that are used tell the fronts of a log apart: more entries use more
+abbrev pub LongerLogsUseMore : Type 0
+LongerLogsUseMore = (log : List Entry) (j k : ℕ) → j < k → k ≤ length log → used_by (take j log) < used_by (take k log)

@@ -1,7 +1,7 @@
 ghost use Rattle.std.specs.Prelude.{◌≡◌, [], chars, length, IfOk, MatchResult, OnErr, OnOk};
 ghost use Rattle.std.specs.Arc.{arc_value};
 ghost use Rattle.mf_edition.specs.Catalogues.{AreAscending, IsCatalogue, IsItemAt, IsItemGap, catalogue_of, insert_item};
-ghost use Rattle.mf_edition.specs.Messages.{insert_message};
+ghost use Rattle.mf_text.specs.Pairs.{insert_pair};
 ghost use Rattle.mf_edition.specs.Items.{item_values};
 
 use crate::Item;
@@ -64,7 +64,7 @@ impl Catalogue {
     /// Puts a message in. Of two with one id the later one counts.
     pub fn put(&mut self, alloc: Global, id: &str, source: &str) -> Result<(), AllocError>
         ensures ok { OnOk result (self.new
-            ≡ record self.old { messages = insert_message (record { name = chars id.now; value = chars source.now }) self.old.messages }) }
+            ≡ record self.old { messages = insert_pair (record { name = chars id.now; value = chars source.now }) self.old.messages }) }
         ensures err { OnErr result (self.new ≡ self.old) }
     {
         let item = Item::new(alloc, &self.tag, id, source)?;
@@ -83,8 +83,8 @@ fn insert_item(items: &mut Vec<Arc<Item>>, item: Arc<Item>) -> Result<(), AllocE
     ensures err { OnErr result (items.new.items ≡ items.old.items) }
 {
     match search(items, item.id()) {
-        Ok(at) => items[at] = item,
-        Err(at) => items.insert(at, item)?,
+        Ok(index) => items[index] = item,
+        Err(index) => items.insert(index, item)?,
     }
     Ok(())
 }
@@ -92,7 +92,9 @@ fn insert_item(items: &mut Vec<Arc<Item>>, item: Arc<Item>) -> Result<(), AllocE
 /// Where the item of an id stands, or where it would have to stand.
 fn search(items: &[Arc<Item>], id: &str) -> Result<usize, usize>
     requires { AreAscending (item_values items.now) }
-    ensures { MatchResult result (λ at. IsItemAt items.now (chars id.now) at) (λ at. IsItemGap items.now (chars id.now) at) }
+    ensures { MatchResult result
+        (λ index. IsItemAt items.now (chars id.now) index)
+        (λ index. IsItemGap items.now (chars id.now) index) }
 {
     items.binary_search_by(|item| compare_id(item, id))
 }

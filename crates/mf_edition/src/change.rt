@@ -1,5 +1,5 @@
-ghost use Rattle.std.specs.Prelude.{◌≡◌, ◌+◌};
-ghost use Rattle.mf_edition.specs.Sizes.{byte_count, messages_size, shown};
+ghost use Rattle.std.specs.Prelude.{◌≡◌, ◌≤◌, ◌+◌, length};
+ghost use Rattle.mf_edition.specs.Sizes.{byte_count, least_size, messages_size, shown};
 
 use crate::Catalogue;
 use mf_locale::{SharedRecord, Tag};
@@ -12,8 +12,8 @@ const OVERHEAD: u64 = 64;
 pub enum Change {
     /// The messages of one tag.
     Catalogue(Catalogue),
-    /// The record of one tag. Its size is in bytes: 64, and those of the tag and of the texts that the record was read
-    /// from.
+    /// The record of one tag. Its size is in bytes: 64, and those of the tag and of the texts that the
+    /// record was read from. A size below 64 counts as 64.
     Locale {
         tag: Tag,
         place: SharedRecord,
@@ -22,34 +22,27 @@ pub enum Change {
 }
 
 impl Change {
-    ghost use Rattle.std.specs.Prelude.{◌≡◌};
+    ghost use Rattle.std.specs.Prelude.{◌≡◌, ◌≤◌};
     ghost use Rattle.mf_edition.specs.Edition.{message_count};
     ghost use Rattle.mf_edition.specs.Sizes.{size_of};
 
-    /// The number of messages that it has.
-    pub(crate) fn message_count(&self) -> usize
-        ensures { result ≡ message_count self.now }
-    {
-        match self {
-            Change::Catalogue(catalogue) => catalogue.len(),
-            Change::Locale { .. } => 0,
-        }
-    }
-
-    /// The bytes that it counts for in a log: 64, and those of its texts in UTF-8, at most 2^64 - 1 together.
+    /// The bytes that it counts for in a log: 64, and those of its texts in UTF-8, at most 2^64 - 1
+    /// together. They are no fewer than its messages.
     pub fn size(&self) -> u64
-        ensures { result ≡ size_of self.now }
+        ensures size { result ≡ size_of self.now }
+        ensures counted { message_count self.now ≤ result }
     {
         match self {
             Change::Catalogue(catalogue) => catalogue_size(catalogue),
-            Change::Locale { size, .. } => *size,
+            Change::Locale { size, .. } => (*size).max(OVERHEAD),
         }
     }
 }
 
 /// The size of a catalogue.
 fn catalogue_size(catalogue: &Catalogue) -> u64
-    ensures { result ≡ shown (64 + byte_count catalogue.now.tag + messages_size catalogue.now.messages) }
+    ensures size { result ≡ shown (least_size + byte_count catalogue.now.tag + messages_size catalogue.now.messages) }
+    ensures counted { length catalogue.now.messages ≤ result }
 {
     let tag = catalogue.tag().as_text().as_str();
     let mut size = OVERHEAD.saturating_add(tag.len() as u64);

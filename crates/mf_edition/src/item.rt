@@ -32,10 +32,12 @@ impl Item {
         ensures { IfOk result (λ item. item ≡ record { tag = tag.now; id = chars id.now; source = chars source.now }) }
     {
         let tag = tag.as_text().as_str();
-        let mut text = String::from_str(alloc, tag)?;
-        let tag_end = place(text.len())?;
+        let len = tag.len().saturating_add(id.len());
+        let mut text = String::with_capacity(alloc, len.saturating_add(source.len()))?;
+        text.push_str(tag)?;
+        let tag_end = short_len(text.len())?;
         text.push_str(id)?;
-        let id_end = place(text.len())?;
+        let id_end = short_len(text.len())?;
         text.push_str(source)?;
         Ok(Item {
             text,
@@ -69,12 +71,19 @@ impl Item {
     }
 }
 
-/// A place in a text, if 32 bits hold it.
-fn place(at: usize) -> Result<u32, AllocError>
-    ensures { IfOk result (λ place. place ≡ at) }
+/// A message that was found: the tag that has it, and its index in the edition.
+#[derive(Debug, Drop)]
+pub struct Found {
+    pub tag: Tag,
+    pub index: u32,
+}
+
+/// A length of a text, if 32 bits hold it.
+fn short_len(len: usize) -> Result<u32, AllocError>
+    ensures { IfOk result (λ short. short ≡ len) }
 {
-    match u32::try_from(at) {
-        Ok(place) => Ok(place),
+    match u32::try_from(len) {
+        Ok(short) => Ok(short),
         Err(_) => Err(AllocError),
     }
 }

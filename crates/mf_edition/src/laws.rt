@@ -1,19 +1,21 @@
 //! What is so of every edition of every log. None of these does anything when it is called.
-ghost use Rattle.mf_edition.specs.Edition.{ChangesAreBounded, EditionsAreNumbered, EditionsFollow, EditionsHaveDistinctNames, EditionsHaveDistinctTags, EditionsStay};
+ghost use Rattle.mf_edition.specs.Edition.{ChangesAreBounded, EditionsAreNumbered, EditionsFollow, EditionsHaveDistinctNames, EditionsStay, NewestIsLast};
+ghost use Rattle.mf_edition.specs.Records.{RecordsAreByTag};
+ghost use Rattle.mf_edition.specs.Sizes.{LongerLogsUseMore};
 
 /// No two messages of an edition have one tag and one id.
 pub fn editions_have_distinct_names()
     ensures { EditionsHaveDistinctNames }
 {}
 
-/// No two records of an edition are of one tag.
-pub fn editions_have_distinct_tags()
-    ensures { EditionsHaveDistinctTags }
-{}
-
 /// Edition k of a log has the number k.
 pub fn editions_are_numbered()
     ensures { EditionsAreNumbered }
+{}
+
+/// The newest edition of a log of k entries is edition k.
+pub fn newest_is_last()
+    ensures { NewestIsLast }
 {}
 
 /// The newest edition of a log with one more entry is the one before it, changed by that entry.
@@ -29,4 +31,14 @@ pub fn editions_stay()
 /// A change adds at most as many messages as it has.
 pub fn changes_are_bounded()
     ensures { ChangesAreBounded }
+{}
+
+/// A record that is published for a tag is that of its tag, and every other tag keeps its own.
+pub fn records_are_by_tag()
+    ensures { RecordsAreByTag }
+{}
+
+/// Of two fronts of a log the longer one uses more bytes.
+pub fn longer_logs_use_more()
+    ensures { LongerLogsUseMore }
 {}

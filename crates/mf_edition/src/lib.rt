@@ -5,24 +5,25 @@ mod catalogue;
 mod change;
 mod edition;
 mod error;
-mod in_place;
 mod item;
 mod laws;
 mod log;
 mod order;
-mod place;
+mod publications;
+mod record;
 
 pub use catalogue::Catalogue;
 pub use change::{Change, Entry};
 pub use edition::Edition;
-pub use error::PublishError;
-pub use item::Item;
+pub use error::{PublishError, Refusal};
+pub use item::{Found, Item};
 pub use laws::{
     changes_are_bounded, editions_are_numbered, editions_follow, editions_have_distinct_names,
-    editions_have_distinct_tags, editions_stay,
+    editions_stay, longer_logs_use_more, newest_is_last, records_are_by_tag,
 };
 pub use log::Log;
-pub use place::Place;
+pub use publications::Publications;
+pub use record::TaggedRecord;
 
 #[cfg(test)]
 mod tests;

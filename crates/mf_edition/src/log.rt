@@ -1,9 +1,9 @@
 ghost use Rattle.std.specs.Prelude.{◌≡◌, ◌≤◌, ◌+◌, ◌++◌, [], ◌∷◌, length, slice_get, None, Some, IfErr, IfOk, OnOk, OnErr};
 ghost use Rattle.std.specs.Option.{option_copied};
-ghost use Rattle.mf_edition.specs.Edition.{next_edition, HasRoom};
+ghost use Rattle.mf_edition.specs.Edition.{message_count, newest_edition, next_edition, HasRoom};
 ghost use Rattle.mf_edition.specs.Sizes.{most_bytes, most_entries, refusal_of, size_of, used_by, IsDue};
 
-use crate::{Change, Edition, Entry, PublishError};
+use crate::{Change, Edition, Entry, PublishError, Refusal};
 use std::alloc::{AllocError, Global};
 use std::marker::Model;
 
@@ -61,11 +61,23 @@ impl Log {
         self.used
     }
 
-    /// The entry at a place, counted from 0, if there is such a place.
+    /// The entry at an index, counted from 0, if there is one: entry k of the log, counted from 1, stands at
+    /// k - 1.
     pub fn get(&self, k: u64) -> Option<&Entry>
         ensures { option_copied result ≡ slice_get self.now k }
     {
         self.entries.get(k as usize)
+    }
+
+    /// Why a change isn't accepted, if it isn't. Where it is, the newest edition has room for it.
+    pub fn refusal(&self, change: &Change) -> Option<Refusal>
+        ensures refusal { result ≡ refusal_of self.now change.now }
+        ensures room { result ≡ None → HasRoom (newest_edition self.now) change.now }
+    {
+        match self.used_with(change) {
+            Ok(_) => None,
+            Err(refusal) => Some(refusal),
+        }
     }
 
     /// Puts an entry at the end. After an error the log is as it was.
@@ -76,18 +88,16 @@ impl Log {
         ensures err { OnErr result (self.new ≡ self.old) }
     {
         let used = self.used_with(&entry.change)?;
-        match self.entries.push(entry) {
-            Ok(()) => {
-                self.used = used;
-                Ok(())
-            }
-            Err(refused) => Err(AllocError::from(refused).into()),
-        }
+        self.entries.reserve(1)?;
+        self.entries.push_reserved(entry);
+        self.used = used;
+        Ok(())
     }
 
-    /// Puts an entry at the end, and its change into the newest edition. After an error both are as they were.
-    pub fn publish(&mut self, newest: &mut Edition, entry: Entry) -> Result<(), PublishError>
-        requires { HasRoom newest.old entry.change }
+    /// Puts an entry at the end, and its change into the newest edition. After an error both are as they
+    /// were.
+    pub(crate) fn publish(&mut self, newest: &mut Edition, entry: Entry) -> Result<(), PublishError>
+        requires { newest.old ≡ newest_edition self.old }
         ensures log { OnOk result (self.new ≡ self.old ++ entry ∷ []) }
         ensures newest { OnOk result (newest.new ≡ next_edition newest.old entry.change) }
         ensures accepted { OnOk result (refusal_of self.old entry.change ≡ None) }
@@ -101,19 +111,21 @@ impl Log {
     }
 
     /// The bytes that are used with one more change, where it is accepted.
-    fn used_with(&self, change: &Change) -> Result<u64, PublishError>
+    fn used_with(&self, change: &Change) -> Result<u64, Refusal>
         ensures accepted { IfOk result (λ _. refusal_of self.now change.now ≡ None) }
         ensures used { IfOk result (λ used. used ≡ used_by self.now + size_of change.now) }
-        ensures refused { IfErr result (λ e. refusal_of self.now change.now ≡ Some e) }
+        ensures counted { IfOk result (λ _. message_count change.now ≤ size_of change.now) }
+        ensures room { IfOk result (λ _. HasRoom (newest_edition self.now) change.now) }
+        ensures refused { IfErr result (λ refusal. refusal_of self.now change.now ≡ Some refusal) }
     {
         let entries = self.len();
         if entries >= MOST_ENTRIES {
-            return Err(PublishError::EditionsFull { entries });
+            return Err(Refusal::EditionsFull { entries });
         }
         let used = self.used;
         let size = change.size();
         if size > MOST_BYTES - used {
-            return Err(PublishError::StoreFull { used, size });
+            return Err(Refusal::StoreFull { used, size });
         }
         Ok(used + size)
     }

@@ -1,5 +1,5 @@
 use super::*;
-use mf_locale::{LocaleRecord, SharedRecord, read_tag};
+use mf_locale::{LocaleRecord, SharedRecord, chain, read_tag};
 use mf_numfmt::Layout;
 use mf_plural::Rules;
 use mf_text::{Direction, Text};
@@ -18,31 +18,25 @@ fn catalogue(alloc: Global, tag: &str, messages: Messages) -> Result<Change, Fai
     Ok(Change::Catalogue(catalogue))
 }
 
-/// The edition that publications make of the empty one.
-fn published(alloc: Global, publications: &[(&str, Messages)]) -> Result<Edition, Fail> {
-    let mut edition = Edition::empty(alloc)?;
-    for (tag, messages) in publications {
-        let change = catalogue(alloc, tag, messages)?;
-        if edition.has_room(&change) {
-            edition = edition.next(&change)?;
-        }
+/// An entry of caller 7.
+fn entry(nth: u64, change: Change) -> Entry {
+    Entry {
+        caller: 7,
+        nth,
+        change,
     }
-    Ok(edition)
 }
 
-/// The same edition, made in place.
-fn advanced(alloc: Global, publications: &[(&str, Messages)]) -> Result<Edition, Fail> {
-    let mut edition = Edition::empty(alloc)?;
-    for (tag, messages) in publications {
-        let change = catalogue(alloc, tag, messages)?;
-        if edition.has_room(&change) {
-            edition.advance(&change)?;
-        }
+/// What publications of messages make.
+fn published(alloc: Global, catalogues: &[(&str, Messages)]) -> Result<Publications, Fail> {
+    let mut publications = Publications::new(alloc)?;
+    for (tag, messages) in catalogues {
+        publications.publish(entry(1, catalogue(alloc, tag, messages)?))?;
     }
-    Ok(edition)
+    Ok(publications)
 }
 
-/// The messages of an edition in the order of their places.
+/// The messages of an edition in the order of their indices.
 fn listed(alloc: Global, edition: &Edition) -> Result<String, Fail> {
     let mut text = String::new(alloc);
     for index in 0..edition.len() {
@@ -85,26 +79,23 @@ fn messages_stand_where_they_were_put_first(rt: HostRuntime) -> Result<(), Fail>
         ),
         (&[], ""),
     ];
-    for (publications, expected) in rows {
-        let edition = published(rt.alloc(), publications)?;
-        assert_eq!(rt; listed(rt.alloc(), &edition)?.as_str(), expected);
-        assert_eq!(rt; edition.number(), publications.len() as u64);
-        let edition = advanced(rt.alloc(), publications)?;
-        assert_eq!(rt; listed(rt.alloc(), &edition)?.as_str(), expected);
-        assert_eq!(rt; edition.number(), publications.len() as u64);
+    for (catalogues, expected) in rows {
+        let publications = published(rt.alloc(), catalogues)?;
+        let newest = publications.newest();
+        assert_eq!(rt; listed(rt.alloc(), newest)?.as_str(), expected);
+        assert_eq!(rt; newest.number(), catalogues.len() as u64);
     }
     Ok(())
 }
 
 #[test]
 fn a_message_is_found_by_its_tag_and_id(rt: HostRuntime) -> Result<(), Fail> {
-    let publications: [(&str, Messages); 3] = [
+    let catalogues: [(&str, Messages); 3] = [
         ("en", &[("d", ""), ("b", ""), ("f", "")]),
         ("de", &[("c", ""), ("e", "")]),
         ("en", &[("a", ""), ("c", ""), ("d", ""), ("g", "")]),
     ];
-    let edition = published(rt.alloc(), &publications)?;
-    let in_place = advanced(rt.alloc(), &publications)?;
+    let publications = published(rt.alloc(), &catalogues)?;
     let rows = [
         ("en", "b", Some(0)),
         ("en", "d", Some(1)),
@@ -119,41 +110,74 @@ fn a_message_is_found_by_its_tag_and_id(rt: HostRuntime) -> Result<(), Fail> {
         ("und", "b", None),
         ("en", "", None),
     ];
-    for (tag, id, place) in rows {
+    for (tag, id, index) in rows {
         let tag = read_tag(rt.alloc(), tag)?;
         let id = Text::of(rt.alloc(), id)?;
-        assert_eq!(rt; edition.find(&tag, &id), place, "{}", id.as_str());
-        assert_eq!(rt; in_place.find(&tag, &id), place, "{}", id.as_str());
+        assert_eq!(rt;
+            publications.newest().find(&tag, &id),
+            index,
+            "{}",
+            id.as_str()
+        );
+    }
+    Ok(())
+}
+
+#[test]
+fn a_message_is_found_along_a_chain(rt: HostRuntime) -> Result<(), Fail> {
+    let catalogues: [(&str, Messages); 3] = [
+        ("und", &[("a", ""), ("b", ""), ("c", "")]),
+        ("en", &[("a", ""), ("b", "")]),
+        ("en-gb", &[("a", "")]),
+    ];
+    let publications = published(rt.alloc(), &catalogues)?;
+    let rows = [
+        ("a", Some(("en-gb", 5))),
+        ("b", Some(("en", 4))),
+        ("c", Some(("und", 2))),
+        ("d", None),
+    ];
+    for (id, expected) in rows {
+        let chain = chain(rt.alloc(), &read_tag(rt.alloc(), "en-GB")?)?;
+        let id = Text::of(rt.alloc(), id)?;
+        let found = publications.newest().find_along(chain, &id);
+        let found = found
+            .as_ref()
+            .map(|found| (found.tag.as_text().as_str(), found.index));
+        assert_eq!(rt; found, expected, "{}", id.as_str());
     }
     Ok(())
 }
 
 #[test]
 fn a_log_grows_at_its_end(rt: HostRuntime) -> Result<(), Fail> {
-    let mut log = Log::new(rt.alloc());
+    let mut publications = Publications::new(rt.alloc())?;
     for nth in 1..4 {
         let change = catalogue(rt.alloc(), "en", &[("a", "b")])?;
-        let pushed = log.push(Entry {
-            caller: 7,
-            nth,
-            change,
-        });
-        assert_eq!(rt; pushed, Ok(()));
-        assert_eq!(rt; log.len(), nth);
+        assert_eq!(rt; publications.publish(entry(nth, change)), Ok(()));
+        assert_eq!(rt; publications.log().len(), nth);
     }
+    let log = publications.log();
     assert_eq!(rt; log.get(1).map(|entry| entry.nth), Some(2));
     assert!(rt; log.get(3).is_none());
-    let mut newest = Edition::empty(rt.alloc())?;
-    let change = catalogue(rt.alloc(), "en", &[("a", "c")])?;
-    let entry = Entry {
-        caller: 7,
-        nth: 4,
-        change,
-    };
-    assert!(rt; newest.has_room(&entry.change));
-    assert_eq!(rt; log.publish(&mut newest, entry), Ok(()));
-    assert_eq!(rt; log.len(), 4);
-    assert_eq!(rt; newest.number(), 1);
+    Ok(())
+}
+
+#[test]
+fn the_next_edition_stands_beside_the_old_one(rt: HostRuntime) -> Result<(), Fail> {
+    let publications = published(rt.alloc(), &[("en", &[("a", "1")])])?;
+    let change = catalogue(rt.alloc(), "en", &[("a", "2"), ("b", "3")])?;
+    let refusal = publications.log().refusal(&change);
+    assert_eq!(rt; refusal, None);
+    if refusal == None {
+        let next = publications.newest().next(&change)?;
+        assert_eq!(rt; listed(rt.alloc(), &next)?.as_str(), "en/a=2 en/b=3 ");
+        assert_eq!(rt; next.number(), 2);
+    }
+    assert_eq!(rt;
+        listed(rt.alloc(), publications.newest())?.as_str(),
+        "en/a=1 "
+    );
     Ok(())
 }
 
@@ -187,28 +211,13 @@ fn locale(alloc: Global, tag: &str, decimal: &str, size: u64) -> Result<Change, 
 /// The tags with the decimal separators of their records, in the order of their publications.
 type Records = &'static [(&'static str, &'static str)];
 
-/// The edition that records make of the empty one.
-fn with_records(alloc: Global, records: Records) -> Result<Edition, Fail> {
-    let mut edition = Edition::empty(alloc)?;
+/// What publications of records make.
+fn with_records(alloc: Global, records: Records) -> Result<Publications, Fail> {
+    let mut publications = Publications::new(alloc)?;
     for (tag, decimal) in records {
-        let change = locale(alloc, tag, decimal, 64)?;
-        if edition.has_room(&change) {
-            edition = edition.next(&change)?;
-        }
+        publications.publish(entry(1, locale(alloc, tag, decimal, 64)?))?;
     }
-    Ok(edition)
-}
-
-/// The same edition, made in place.
-fn with_records_in_place(alloc: Global, records: Records) -> Result<Edition, Fail> {
-    let mut edition = Edition::empty(alloc)?;
-    for (tag, decimal) in records {
-        let change = locale(alloc, tag, decimal, 64)?;
-        if edition.has_room(&change) {
-            edition.advance(&change)?;
-        }
-    }
-    Ok(edition)
+    Ok(publications)
 }
 
 /// The decimal separators of the records that speak for tags.
@@ -246,10 +255,11 @@ fn a_tag_has_the_record_of_the_first_tag_of_its_chain(rt: HostRuntime) -> Result
         ),
     ];
     for (records, expected) in rows {
-        let edition = with_records(rt.alloc(), records)?;
-        assert_eq!(rt; decimals(rt.alloc(), &edition, &tags)?.as_str(), expected);
-        let edition = with_records_in_place(rt.alloc(), records)?;
-        assert_eq!(rt; decimals(rt.alloc(), &edition, &tags)?.as_str(), expected);
+        let publications = with_records(rt.alloc(), records)?;
+        assert_eq!(rt;
+            decimals(rt.alloc(), publications.newest(), &tags)?.as_str(),
+            expected
+        );
     }
     Ok(())
 }
@@ -266,15 +276,8 @@ fn a_change_has_the_size_of_its_texts(rt: HostRuntime) -> Result<(), Fail> {
         assert_eq!(rt; catalogue(rt.alloc(), tag, messages)?.size(), size);
     }
     assert_eq!(rt; locale(rt.alloc(), "en", ",", 77)?.size(), 77);
+    assert_eq!(rt; locale(rt.alloc(), "en", ",", 0)?.size(), 64);
     Ok(())
-}
-
-fn entry(nth: u64, change: Change) -> Entry {
-    Entry {
-        caller: 7,
-        nth,
-        change,
-    }
 }
 
 fn full(used: u64, size: u64) -> Result<(), PublishError> {
@@ -302,15 +305,12 @@ fn a_log_has_so_many_bytes(rt: HostRuntime) -> Result<(), Fail> {
 
 #[test]
 fn a_refused_publication_is_no_edition(rt: HostRuntime) -> Result<(), Fail> {
-    let mut log = Log::new(rt.alloc());
-    let mut newest = Edition::empty(rt.alloc())?;
+    let mut publications = Publications::new(rt.alloc())?;
     for (size, expected) in [(268_435_390, Ok(())), (67, full(268_435_390, 67))] {
-        let entry = entry(1, locale(rt.alloc(), "en", ",", size)?);
-        if newest.has_room(&entry.change) {
-            assert_eq!(rt; log.publish(&mut newest, entry), expected);
-        }
+        let change = locale(rt.alloc(), "en", ",", size)?;
+        assert_eq!(rt; publications.publish(entry(1, change)), expected);
     }
-    assert_eq!(rt; newest.number(), 1);
+    assert_eq!(rt; publications.newest().number(), 1);
     Ok(())
 }
 

@@ -12,8 +12,8 @@ id_is c = c.id.ensures.characters ∙ ap (λ item. item.id) c.deref-2.ensures
 
 pub returns-in-Ok-clause-ok : goal.returns-in-Ok-clause-ok
 returns-in-Ok-clause-ok c =
-    let found = subst (λ id. IsItemAt c.deref.result.now id c.in-Ok.at) (id_is (goal.at.returns-in-Ok-clause-ok c).After-search) c.in-Ok.ensures in
-    put_there c.args.items.now.items c.args.item c.in-Ok.at (subst (λ items. IsItemAt items (arc_value c.args.item).id c.in-Ok.at) c.deref.ensures.value found)
+    let found = subst (λ id. IsItemAt c.deref.result.now id c.in-Ok.index) (id_is (goal.at.returns-in-Ok-clause-ok c).After-search) c.in-Ok.ensures in
+    put_there c.args.items.now.items c.args.item c.in-Ok.index (subst (λ items. IsItemAt items (arc_value c.args.item).id c.in-Ok.index) c.deref.ensures.value found)
 
 pub returns-in-Ok-clause-catalogue : goal.returns-in-Ok-clause-catalogue
 returns-in-Ok-clause-catalogue c =
@@ -21,9 +21,9 @@ returns-in-Ok-clause-catalogue c =
 
 pub returns-in_ok-insert-in-Err-clause-ok : goal.returns-in_ok-insert-in-Err-clause-ok
 returns-in_ok-insert-in-Err-clause-ok c =
-    let gap = subst (λ id. IsItemGap c.deref.result.now id c.in-Err.at) (id_is (goal.at.returns-in_ok-insert-in-Err-clause-ok c).After-search) c.in-Err.ensures in
+    let gap = subst (λ id. IsItemGap c.deref.result.now id c.in-Err.index) (id_is (goal.at.returns-in_ok-insert-in-Err-clause-ok c).After-search) c.in-Err.ensures in
     ap item_values c.in_ok-insert-in-Err.ensures.items
-    ∙ put_between c.args.items.now.items c.args.item c.in-Err.at (subst (λ items. IsItemGap items (arc_value c.args.item).id c.in-Err.at) c.deref.ensures.value gap)
+    ∙ put_between c.args.items.now.items c.args.item c.in-Err.index (subst (λ items. IsItemGap items (arc_value c.args.item).id c.in-Err.index) c.deref.ensures.value gap)
 
 pub returns-in_ok-insert-in-Err-clause-catalogue : goal.returns-in_ok-insert-in-Err-clause-catalogue
 returns-in_ok-insert-in-Err-clause-catalogue c =

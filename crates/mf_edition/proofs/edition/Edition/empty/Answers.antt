@@ -1,7 +1,6 @@
 use Rattle.std.proofs.Common.{rules, sym, subst}
-use Rattle.mf_edition.specs.Places.{AreAscending}
-use Rattle.mf_edition.specs.Views.{place_values}
-use Rattle.mf_edition.proofs.PlacesAscend.{ascending_none}
+use Rattle.mf_edition.specs.RecordOrder.{AreAscending}
+use Rattle.mf_edition.proofs.RecordSearch.{ascending_none}
 use Rattle.mf_edition.proofs.edition.Edition.empty.Goals as goal
 
 pub invariant_of-result : goal.invariant_of-result
@@ -9,7 +8,7 @@ invariant_of-result c = (
   record {
     few = search rules;
     ordered = search rules;
-    ascending = subst (λ places. AreAscending (place_values places)) (sym c.new-4.ensures.items) ascending_none;
+    ascending = subst AreAscending (sym c.new-4.ensures.items) ascending_none;
   },
   search rules,
 )

@@ -4,22 +4,25 @@ use Rattle.std.specs.Prelude.{string_bytes}
 use Rattle.mf_edition.specs.Items.{item_in, AreEnds}
 use Rattle.mf_edition.proofs.Cut.{joined_ends, joined_item}
 use Rattle.mf_edition.proofs.item.Item.new.Goals as goal
-use Rattle.mf_edition.proofs.item.Item.new.Goals.{In_ok-push_str-2}
+use Rattle.mf_edition.proofs.item.Item.new.Goals.{In_ok-push_str-3}
 
-front_is : (c : In_ok-push_str-2) → string_bytes c.push_str.new.self ≡ c.as_str-tag.result.now ++ c.args.id.now
-front_is c = c.in_ok-push_str.ensures.bytes ∙ ap (λ bytes. bytes ++ c.args.id.now) c.in_ok-text.ensures.ok
+tag_is : (c : In_ok-push_str-3) → string_bytes c.push_str.new.self ≡ c.as_str-tag.result.now
+tag_is c = c.in_ok-push_str.ensures.bytes ∙ ap (λ bytes. bytes ++ c.as_str-tag.result.now) c.in_ok-text.ensures.bytes
 
-abbrev whole : In_ok-push_str-2 → List ℕ
+front_is : (c : In_ok-push_str-3) → string_bytes c.push_str-2.new.self ≡ c.as_str-tag.result.now ++ c.args.id.now
+front_is c = c.in_ok-push_str-2.ensures.bytes ∙ ap (λ bytes. bytes ++ c.args.id.now) (tag_is c)
+
+abbrev whole : In_ok-push_str-3 → List ℕ
 whole c = (c.as_str-tag.result.now ++ c.args.id.now) ++ c.args.source.now
 
-text_is : (c : In_ok-push_str-2) → string_bytes c.push_str-2.new.self ≡ whole c
-text_is c = c.in_ok-push_str-2.ensures.bytes ∙ ap (λ bytes. bytes ++ c.args.source.now) (front_is c)
+text_is : (c : In_ok-push_str-3) → string_bytes c.push_str-3.new.self ≡ whole c
+text_is c = c.in_ok-push_str-3.ensures.bytes ∙ ap (λ bytes. bytes ++ c.args.source.now) (front_is c)
 
-tag_ends : (c : In_ok-push_str-2) → c.in_ok-tag_end.tag_end ≡ length c.as_str-tag.result.now
-tag_ends c = c.in_ok-tag_end.ensures ∙ c.len.ensures ∙ c.in_ok-text.text.bytes.ok.0 ∙ ap length c.in_ok-text.ensures.ok
+tag_ends : (c : In_ok-push_str-3) → c.in_ok-tag_end.tag_end ≡ length c.as_str-tag.result.now
+tag_ends c = c.in_ok-tag_end.ensures ∙ c.len.ensures ∙ c.push_str.new.self.bytes.ok.0 ∙ ap length (tag_is c)
 
-id_ends : (c : In_ok-push_str-2) → c.in_ok-id_end.id_end ≡ length (c.as_str-tag.result.now ++ c.args.id.now)
-id_ends c = c.in_ok-id_end.ensures ∙ c.len-2.ensures ∙ c.push_str.new.self.bytes.ok.0 ∙ ap length (front_is c)
+id_ends : (c : In_ok-push_str-3) → c.in_ok-id_end.id_end ≡ length (c.as_str-tag.result.now ++ c.args.id.now)
+id_ends c = c.in_ok-id_end.ensures ∙ c.len-2.ensures ∙ c.push_str-2.new.self.bytes.ok.0 ∙ ap length (front_is c)
 
 pub invariant_of-result : goal.invariant_of-result
 invariant_of-result c =
