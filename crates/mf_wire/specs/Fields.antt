@@ -5,12 +5,12 @@ use Rattle.std.specs.Option.{option_or}
 use Rattle.serde_json.specs.Find.{get, as_str, as_object, as_number, as_i64, as_u64}
 use Rattle.serde_json.specs.Events.{members_len}
 use Rattle.unicode_normalization.specs.Forms.{nfc}
-use Rattle.mf_text.specs.Arguments.{argument_named, with_argument}
+use Rattle.mf_text.specs.Arguments.{with_new_argument}
 use Rattle.mf_text.specs.declared.arguments.Argued.{Argued}
 use Rattle.mf_text.specs.declared.arguments.Argued.TheVariants.{Text, Signed, Unsigned}
 use Rattle.mf_text.specs.declared.pair.Pair.{Pair}
 use Rattle.mf_edition.specs.Catalogues.{Catalogue}
-use Rattle.mf_edition.specs.Messages.{in_byte_order}
+use Rattle.mf_text.specs.Pairs.{in_byte_order}
 use Rattle.mf_locale.specs.Tag.{is_tag, lower_case}
 
 -- the bytes of a field that is a text
@@ -79,20 +79,12 @@ argued_number value = option_or (option_map Signed (option_and_then as_i64 (as_n
 abbrev pub argued_from : Data → Option Argued
 argued_from value = option_or (option_map (λ bytes. Text (chars bytes)) (as_str value)) (argued_number value)
 
--- an argument, whose name is taken in Normalization Form C (Unicode Standard Annex 15)
-abbrev pub argument_from : List ℕ → Data → Option (List ℕ × Argued)
-argument_from name value = option_map (λ argued. (nfc (chars name), argued)) (argued_from value)
-
--- the arguments found so far and one more, none where its name stands among them already
-abbrev pub with_new_argument : List (List ℕ × Argued) → List ℕ × Argued → Option (List (List ℕ × Argued))
-with_new_argument found argument =
-    if is_some (argument_named found argument.0) then None else Some (with_argument found argument.0 argument.1)
-
--- the arguments found so far and those of an object, none where a member isn't an argument or two have one name
+-- the arguments found so far and those of an object, whose names are taken in Normalization Form C (Unicode Standard
+-- Annex 15), none where a member isn't an argument or two have one name
 abbrev pub arguments_from : Members → List (List ℕ × Argued) → Option (List (List ℕ × Argued))
 arguments_from no_members found = Some found
 arguments_from (member name value more) found =
-    option_and_then (λ argument. option_and_then (λ so_far. arguments_from more so_far) (with_new_argument found argument)) (argument_from name value)
+    option_and_then (λ argued. option_and_then (λ so_far. arguments_from more so_far) (with_new_argument found (nfc (chars name)) argued)) (argued_from value)
 
 -- the arguments of a field: none where it is missing, and those of an object
 abbrev pub arguments_of : Option Data → Option (List (List ℕ × Argued))

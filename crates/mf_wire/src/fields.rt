@@ -7,7 +7,7 @@ ghost use Rattle.mf_wire.specs.Fields.{message_with};
 
 use mf_edition::Catalogue;
 use mf_locale::{LocaleError, Tag, read_tag};
-use mf_text::{Argued, Arguments, Text, nfc};
+use mf_text::{Argued, Arguments, Text};
 use serde_json::{Map, Value};
 use std::alloc::{AllocError, Global};
 
@@ -140,26 +140,14 @@ fn arguments(alloc: Global, members: &Map<String, Value>) -> Result<Option<Argum
 {
     let mut arguments = Arguments::new(alloc);
     for (name, value) in members {
-        let Some((name, value)) = argument(alloc, name.as_str(), value)? else {
+        let Some(value) = argued(alloc, value)? else {
             return Ok(None);
         };
-        if arguments.find(&name).is_some() {
+        if !arguments.insert(alloc, name.as_str(), value)? {
             return Ok(None);
         }
-        arguments.set(name, value)?;
     }
     Ok(Some(arguments))
-}
-
-/// An argument, whose name is taken in Normalization Form C (Unicode Standard Annex 15).
-fn argument(alloc: Global, name: &str, value: &Value) -> Result<Option<(Text, Argued)>, AllocError>
-    ensures { IfOk result (λ argument. argument ≡ fields.argument_from name.now (view value.now)) }
-{
-    let Some(argued) = argued(alloc, value)? else {
-        return Ok(None);
-    };
-    let name = nfc(alloc, name)?;
-    Ok(Some((name, argued)))
 }
 
 /// The value of an argument: a text, or a whole number.
