@@ -62,7 +62,7 @@ pub enum Item {
 pub type Items = List<Item>;
 
 /// That an operand, or its remainder by a modulus, is among some items, or that it isn't.
-#[derive(Debug, Drop)]
+#[derive(Debug, PartialEq, Eq, Drop)]
 pub struct Relation {
     pub operand: Operand,
     /// The modulus, where there is one; it isn't 0.
@@ -79,7 +79,7 @@ pub type AndPart = List<Relation>;
 pub type Condition = List<AndPart>;
 
 /// A category, and the condition under which a number has it.
-#[derive(Debug, Drop)]
+#[derive(Debug, PartialEq, Eq, Drop)]
 pub struct Rule {
     pub keyword: Category,
     pub condition: Condition,
