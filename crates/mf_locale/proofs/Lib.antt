@@ -1,3 +1,4 @@
 pub mod Parts
 pub mod Truncations
 pub mod Read
+pub mod Chains

@@ -13,7 +13,7 @@ use Rattle.mf_locale.specs.Tag.{are_subtags, is_first_subtag, is_further_subtag,
 use Rattle.mf_locale.proofs.Parts.{IsAscii-tag, NoHyphen, NoHyphen-from_reads, subtags_one}
 
 -- a text has at least one part
-no_parts : (text : List ℕ) → subtags text ≡ [] → ⊥
+pub no_parts : (text : List ℕ) → subtags text ≡ [] → ⊥
 no_parts text none =
     let counted = ap length none in
     omega (arith, length-slice_split (λ c. c == 45) text, counted)

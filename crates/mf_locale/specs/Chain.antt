@@ -31,3 +31,8 @@ ending_in_und (tag ∷ next ∷ more) = tag ∷ ending_in_und (next ∷ more)
 -- the chain of a tag
 abbrev pub chain_of : List ℕ → List (List ℕ)
 chain_of tag = ending_in_und (truncations tag)
+
+-- the chain of a tag, if there is one
+abbrev pub each_chain : Option (List ℕ) → List (List ℕ)
+each_chain None = []
+each_chain (Some tag) = chain_of tag

@@ -13,8 +13,8 @@ use Rattle.mf_locale.specs.declared.field.RecordField.{RecordField}
 use Rattle.mf_locale.specs.declared.field.RecordField.TheVariants.{Version, Dir}
 use Rattle.mf_locale.specs.declared.size.GroupSize.{GroupSize}
 
--- why a value is no locale record: a field is missing, of another kind or out of range, or a rule of a field's plural rules
--- is bad, counted from 1
+-- why a value is no locale record: a field is missing, of another kind or out of range, or a rule of a field's plural
+-- rules is bad, counted from 1
 pub data RecordFault : Type 0 where
   bad_field : RecordField → RecordFault
   bad_rule : RecordField → ℕ → RecordFault
@@ -74,7 +74,9 @@ size_from number = size_by number (is_size number) refl
 abbrev pub size_field : RecordField → Data → Result GroupSize RecordFault
 size_field field value = needed field (option_and_then size_from (number_at field value))
 
--- the plural rules that a field has, or the number of its first bad one
+-- the plural rules that a field's text spells, or the number of its first bad one: by the laws AreRulesComputed and
+-- IsNumberComputed of mf_plural, `rules_of` gives rules exactly where SpellsRules has them, and a number exactly where
+-- IsFirstBad has it
 abbrev pub rules_in : RecordField → Result (List Rule) ℕ → Result (List Rule) RecordFault
 rules_in field (Ok rules) = Ok rules
 rules_in field (Err number) = Err (bad_rule field number)

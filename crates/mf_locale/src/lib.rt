@@ -17,7 +17,7 @@ mod tag;
 pub use default::root;
 pub use error::LocaleError;
 pub use field::RecordField;
-pub use lookup::{Tags, chain};
+pub use lookup::{Tags, chain, next_in_chain};
 pub use reading::read_record;
 pub use record::LocaleRecord;
 pub use shared::SharedRecord;

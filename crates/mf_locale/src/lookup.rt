@@ -1,5 +1,6 @@
-ghost use Rattle.std.specs.Prelude.{◌≡◌, IfOk};
-ghost use Rattle.mf_locale.specs.Chain.{chain_of};
+ghost use Rattle.std.specs.Prelude.{◌≡◌, ◌∷◌, IfOk};
+ghost use Rattle.std.specs.Option.{option_copied};
+ghost use Rattle.mf_locale.specs.Chain.{chain_of, each_chain};
 
 use crate::Tag;
 use mf_text::List;
@@ -25,4 +26,16 @@ pub fn chain(alloc: Global, tag: &Tag) -> Result<Tags, AllocError>
         tags.push(Tag::und(alloc)?)?;
     }
     Ok(tags)
+}
+
+/// The text of the tag that is looked up after the one of this text: what stands before its last hyphen, `und` behind a
+/// text without one, and none behind `und`. So a tag's chain is walked without memory, from the tag's own text on.
+pub fn next_in_chain(tag: &str) -> Option<&str>
+    ensures { chain_of tag.now ≡ tag.now ∷ each_chain (option_copied result) }
+{
+    match tag.rfind('-') {
+        Some(hyphen) => Some(&tag[..hyphen]),
+        None if tag == "und" => None,
+        None => Some("und"),
+    }
 }

@@ -3,7 +3,7 @@ use mf_plural::Rules;
 use mf_text::Direction;
 
 /// What a locale says of the messages and the numbers in its language.
-#[derive(Debug, Drop)]
+#[derive(Debug, PartialEq, Eq, Drop)]
 pub struct LocaleRecord {
     /// The direction of its messages and numbers.
     pub dir: Direction,

@@ -46,3 +46,23 @@ impl Clone for SharedRecord {
         Ok(SharedRecord { record })
     }
 }
+
+/// Two are equal where their records are, whoever shares them.
+impl PartialEq for SharedRecord {
+    ghost use Rattle.mf_locale.specs.contracts.record.LocaleRecordPartialEq.TheImpl as record_eq;
+    ghost use Rattle.mf_locale.specs.contracts.record.LocaleRecordPartialEq.TheImpl.Laws.{laws-law};
+
+    ghost eq = { record_eq.ghosts.eq };
+
+    ghost laws = { laws-law };
+
+    fn eq(&self, other: &SharedRecord) -> bool {
+        self.as_record() == other.as_record()
+    }
+}
+
+impl Eq for SharedRecord {
+    ghost use Rattle.mf_locale.specs.contracts.record.LocaleRecordEq.TheImpl.Laws.{laws-law};
+
+    ghost laws = { laws-law };
+}

@@ -58,9 +58,13 @@ fn a_chain_ends_in_und(rt: HostRuntime) -> Result<(), Fail> {
     for (text, expected) in chains {
         let tags = chain(rt.alloc(), &read_tag(rt.alloc(), text)?)?;
         assert_eq!(rt; tags.len(), expected.len());
+        let mut walked = Some(text);
         for (tag, wanted) in tags.as_slice().iter().zip(expected) {
             assert_eq!(rt; tag.as_text().as_str(), *wanted);
+            assert_eq!(rt; walked, Some(*wanted));
+            walked = walked.and_then(next_in_chain);
         }
+        assert_eq!(rt; walked, None);
     }
     Ok(())
 }
