@@ -1,5 +1,6 @@
 -- Isolation of values by the default bidi strategy (Unicode TS 35, Part 9, "Handling bidirectional text").
 use Rattle.std.specs.Prelude.{ℕ, Bool, true, false, List, [], ◌∷◌, Option, Some, None}
+use Rattle.std.specs.List.{flat_map}
 use Rattle.mf_text.specs.declared.direction.Direction.{Direction}
 use Rattle.mf_text.specs.declared.direction.Direction.TheVariants.{Ltr, Rtl, Unknown}
 use Rattle.mf_parts.specs.declared.part.Part.{Part}
@@ -18,7 +19,8 @@ first_strong_isolate = 0x2068
 abbrev pub pop_directional_isolate : ℕ
 pop_directional_isolate = 0x2069
 
--- the mark before a value of this direction in a message of that one: a left-to-right value stands as it is in a left-to-right message, unless its isolation is forced
+-- the mark before a value of this direction in a message of that one: a left-to-right value stands as it is in a
+-- left-to-right message, unless its isolation is forced
 abbrev pub opening : Direction → Direction → Bool → Option ℕ
 opening Ltr Ltr false = None
 opening Ltr Ltr true = Some left_to_right_isolate
@@ -37,3 +39,7 @@ abbrev pub isolated_part : Direction → Part → List Part
 isolated_part message (Text text) = Text text ∷ []
 isolated_part message (Isolate mark) = Isolate mark ∷ []
 isolated_part message (String value dir forced id) = between (opening message dir forced) (String value dir forced id)
+
+-- the parts of a message of this direction, each with its marks
+abbrev pub isolated : Direction → List Part → List Part
+isolated message parts = flat_map (isolated_part message) parts

@@ -1,9 +1,24 @@
 ghost use Rattle.std.specs.Prelude.{◌≡◌, ◌++◌, IfOk};
-ghost use Rattle.mf_parts.specs.Isolation.{between, isolated_part, opening};
+ghost use Rattle.mf_parts.specs.Isolation.{between, isolated, isolated_part, opening};
 
 use crate::{Part, Parts};
 use mf_text::Direction;
-use std::alloc::AllocError;
+use std::alloc::{AllocError, Global};
+
+/// The most parts that a part and its marks are.
+const MOST_PARTS: usize = 3;
+
+/// The parts of a message of this direction, each between the marks that it gets. No part is copied.
+pub fn isolate(alloc: Global, parts: Parts, message: Direction) -> Result<Parts, AllocError>
+    ensures { IfOk result (λ done. done ≡ isolated message parts) }
+{
+    let room = parts.len().saturating_mul(MOST_PARTS);
+    let mut done = Parts::with_capacity(alloc, room)?;
+    for part in parts.into_members() {
+        done = push_isolated(done, part, message)?;
+    }
+    Ok(done)
+}
 
 /// The parts with one more at the end, between the marks that it gets in a message of this direction.
 pub fn push_isolated(parts: Parts, part: Part, message: Direction) -> Result<Parts, AllocError>

@@ -7,7 +7,7 @@ mod isolation;
 mod part;
 mod text;
 
-pub use isolation::push_isolated;
+pub use isolation::{isolate, push_isolated};
 pub use part::{Part, Parts};
 pub use text::{joined, joined_len};
 

@@ -50,11 +50,9 @@ fn a_value_is_isolated_by_its_direction(rt: HostRuntime) -> Result<(), Fail> {
         ),
     ];
     for (message, dir, forced, expected) in rows {
-        let parts = push_isolated(
-            Parts::new(alloc),
-            Part::Text(Text::of(alloc, "a: ")?),
-            message,
-        )?;
+        let mut plain = Parts::new(alloc);
+        plain.push(Part::Text(Text::of(alloc, "a: ")?))?;
+        let parts = isolate(alloc, plain, message)?;
         let parts = push_isolated(parts, value(alloc, dir, forced)?, message)?;
         assert_eq!(rt;
             joined(alloc, &parts)?.as_str(),
