@@ -48,7 +48,7 @@ op_name Locale = codes "locale"
 -- what a change is a publication of
 abbrev pub op_of : Change → Op
 op_of (change.Catalogue catalogue) = Publish
-op_of (change.Locale tag place size) = Locale
+op_of (change.Locale tag record_given size) = Locale
 
 -- the object of a formatted message, whose text is its parts joined
 abbrev pub formatted_data : ℕ → List ℕ → List Part → Data

@@ -39,7 +39,7 @@ fault_reply (bad_rule field number) = BadLocale field (Some number)
 
 -- a publication of a record for a tag, or the reply that refuses the record
 abbrev pub record_request : List ℕ → Data → Result LocaleRecord RecordFault → Result Request Reply
-record_request tag given (Ok place) = Ok (Publish (Locale tag place (record_size tag given)))
+record_request tag given (Ok record_read) = Ok (Publish (Locale tag record_read (record_size tag given)))
 record_request tag given (Err fault) = Err (fault_reply fault)
 
 -- a publication of a locale record: a tag and an object, then the record's own fields
@@ -80,9 +80,9 @@ abbrev pub request_read : Option Data → Result Request Reply
 request_read None = Err BadJson
 request_read (Some value) = request_from value
 
--- the request of a line, or the reply that refuses it
-abbrev pub request_of : List ℕ → Result Request Reply
-request_of line = request_read (reading line)
+-- the request of a line, or the reply that refuses it by what the line says: a publication may still be refused by the log
+abbrev pub line_request : List ℕ → Result Request Reply
+line_request line = request_read (reading line)
 
 -- the refusal is the one that is due; nothing is said of want of memory
 abbrev pub IsDue : Result Request Reply → WireError → Type 0

@@ -1,7 +1,7 @@
 ghost use Rattle.std.specs.Prelude.{◌≡◌, Ok, IfErr, IfOk};
 ghost use Rattle.serde_json.specs.View.{view};
 ghost use Rattle.mf_locale.specs.RecordReading.{record_of};
-ghost use Rattle.mf_wire.specs.Requests.{format_request, lint_request, locale_request, publish_request, record_request, request_by, request_from, request_of, IsDue};
+ghost use Rattle.mf_wire.specs.Requests.{format_request, lint_request, locale_request, publish_request, record_request, request_by, request_from, line_request, IsDue};
 
 use crate::field::Field;
 use crate::fields::{
@@ -41,8 +41,8 @@ pub enum Request {
 /// `BadJson`, `BadRequest` with the first field that is missing, of another kind or out of range, `BadLocale` with that
 /// of a locale record, `NotBuilt` and `OutOfMemory`.
 pub fn read_request(alloc: Global, line: &[u8]) -> Result<Request, WireError>
-    ensures request { IfOk result (λ request. request_of line.now ≡ Ok request) }
-    ensures refused { IfErr result (IsDue (request_of line.now)) }
+    ensures request { IfOk result (λ request. line_request line.now ≡ Ok request) }
+    ensures refused { IfErr result (IsDue (line_request line.now)) }
 {
     let Some(value) = read_value(alloc, line)? else {
         return Err(WireError::BadJson);
@@ -117,8 +117,8 @@ fn locale_record(alloc: Global, tag: Tag, given: &Value) -> Result<Request, Wire
 {
     let size = record_size(&tag, given);
     match read_record(alloc, given) {
-        Ok(place) => {
-            let place = SharedRecord::new(alloc, place)?;
+        Ok(record) => {
+            let place = SharedRecord::new(alloc, record)?;
             Ok(Request::Publish(Change::Locale { tag, place, size }))
         }
         Err(LocaleError::BadField { field }) => Err(WireError::BadLocale { field, rule: None }),
