@@ -6,7 +6,7 @@ use Rattle.mf_edition.specs.declared.change.Change.{Change}
 use Rattle.mf_edition.specs.declared.error.PublishError.{PublishError}
 use Rattle.mf_edition.specs.declared.error.PublishError.TheVariants.{EditionsFull, StoreFull, OutOfMemory}
 use Rattle.mf_wire.specs.Replies.{memory_line}
-use Rattle.mf_wire.specs.Requests.{request_of}
+use Rattle.mf_wire.specs.Requests.{line_request}
 use Rattle.mf_wire.specs.declared.reply.Reply.{Reply}
 use Rattle.mf_wire.specs.declared.request.Request.{Request}
 use Rattle.mf_wire.specs.declared.request.Request.TheVariants.{Publish, Format, Lint}
@@ -51,7 +51,7 @@ served_once desk (line ∷ lines) [] others after kept one two calm quiet = absu
 served_once desk (line ∷ lines) (reply ∷ replies) [] after kept one two calm quiet = absurd two
 served_once desk (line ∷ lines) (reply ∷ replies) (other ∷ others) after kept one two calm quiet =
     let first : (reply ≡ other) × (one.0 ≡ two.0) =
-    asked_once (request_of line) desk reply other one.0 two.0 (defined desk line reply one.0 one.1 calm.0) (defined desk line other two.0 two.1 quiet.0) in
+    asked_once (line_request line) desk reply other one.0 two.0 (defined desk line reply one.0 one.1 calm.0) (defined desk line other two.0 two.1 quiet.0) in
     let further : (replies ≡ others) × (after ≡ kept) =
     served_once one.0 lines replies others after kept one.2 (subst (λ d. Served d lines others kept) (sym first.1) two.2) calm.1 quiet.1 in
     (ap (λ r. r ∷ replies) first.0 ∙ ap (λ rs. other ∷ rs) further.0, further.1)

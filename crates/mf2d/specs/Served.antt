@@ -6,7 +6,7 @@ use Rattle.mf_edition.specs.declared.error.PublishError.{PublishError}
 use Rattle.mf_edition.specs.declared.error.PublishError.TheVariants.{EditionsFull, StoreFull, OutOfMemory}
 use Rattle.mf_edition.specs.Sizes.{refusal_of}
 use Rattle.mf_wire.specs.Replies.{reply_line, memory_line, op_of}
-use Rattle.mf_wire.specs.Requests.{request_of}
+use Rattle.mf_wire.specs.Requests.{line_request}
 use Rattle.mf_wire.specs.declared.reply.Reply.{Reply}
 use Rattle.mf_wire.specs.declared.reply.Reply.TheVariants as told
 use Rattle.mf_wire.specs.declared.request.Request.{Request}
@@ -50,7 +50,7 @@ RequestAnswered (Lint source) desk reply after = Replies (lint_reply source) des
 -- the defined reply to a line, and the desk after it
 abbrev pub LineAnswered : Desk → List ℕ → List ℕ → Desk → Type 0
 LineAnswered desk line reply after =
-    MatchResult (request_of line) (λ request. RequestAnswered request desk reply after) (λ refusal. Replies refusal desk reply after)
+    MatchResult (line_request line) (λ request. RequestAnswered request desk reply after) (λ refusal. Replies refusal desk reply after)
 
 -- the same, or the memory line, which a line that found no memory gets, and which changes nothing
 abbrev pub Answered : Desk → List ℕ → List ℕ → Desk → Type 0
