@@ -1,3 +1,5 @@
 pub mod Bracketed
 pub mod FirstLine
 pub mod Objects
+pub mod Printed
+pub mod AcceptedSize

@@ -4,6 +4,7 @@
 //! line of compact JSON, the keys of every object in byte order.
 #![tactic(auto)]
 
+mod accepted;
 mod field;
 mod fields;
 mod lines;
@@ -13,6 +14,7 @@ mod request;
 mod size;
 mod writing;
 
+pub use accepted::Accepted;
 pub use field::Field;
 pub use lines::first_line;
 pub use reading::WireError;

@@ -367,6 +367,21 @@ fn each_reply_is_one_object(rt: HostRuntime) -> Result<(), Fail> {
 }
 
 #[test]
+fn the_line_of_a_publication_has_its_room(rt: HostRuntime) -> Result<(), Fail> {
+    let line = br#"{"op":"publish","locale":"en","messages":{"a":"A"}}"#;
+    let Request::Publish(change) = read_request(rt.alloc(), line)? else {
+        return Err(Fail::new("a publication was read otherwise"));
+    };
+    let accepted = Accepted::new(rt.alloc(), &change)?;
+    let line = accepted.line(u64::MAX);
+    assert_eq!(rt;
+        line.as_str(),
+        r#"{"edition":18446744073709551615,"ok":"publish"}"#
+    );
+    Ok(())
+}
+
+#[test]
 fn a_bad_record_is_refused_with_its_rule(rt: HostRuntime) -> Result<(), Fail> {
     let alloc = rt.alloc();
     for (rule, line) in [

@@ -1,6 +1,6 @@
 //! A reply written token by token, straight into the buffer of its line: no JSON value is made of it.
 
-ghost use Rattle.std.specs.Prelude.{◌≡◌, codes, IfSome, OnOk, encode_utf8_all};
+ghost use Rattle.std.specs.Prelude.{◌≡◌, ◌<◌, codes, IfSome, OnErr, OnOk, encode_utf8_all};
 ghost use Rattle.serde_json.specs.Data.{number, string, array, unsigned, no_items};
 ghost use Rattle.mf_parts.specs.Joined.{text_of};
 ghost use Rattle.mf_wire.specs.Replies.{bad_locale_data, error_data, fault_data, faults_data, formatted_data, invalid_data, part_data, parts_data, reply_data, string_data, text_data, valid_data};
@@ -131,11 +131,17 @@ fn write_texts(
     out.end_object()
 }
 
-/// Writes the object of a publication that is accepted.
-fn write_accepted(out: &mut Writer, edition: u64, op: Op) -> Result<(), AllocError>
-    ensures { OnOk result (Writes (accepted_data edition op) out.old out.new) }
+/// Writes the object of a publication that is accepted. It fails only where there was room for fewer than 64 bytes.
+pub(crate) fn write_accepted(out: &mut Writer, edition: u64, op: Op) -> Result<(), AllocError>
+    ensures written { OnOk result (Writes (accepted_data edition op) out.old out.new) }
+    ensures room { OnErr result (out.old.spare < 64) }
 {
-    write_numbered(out, "edition", edition, "ok", op.as_str())
+    out.begin_object()?;
+    out.key("edition")?;
+    out.u64(edition)?;
+    out.key("ok")?;
+    out.string(op.as_str())?;
+    out.end_object()
 }
 
 /// Writes the object of the refusal of a request for this field.
