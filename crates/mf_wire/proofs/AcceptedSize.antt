@@ -5,7 +5,7 @@ use Rattle.std.specs.Fmt.{decimal}
 use Rattle.std.proofs.lemmas.Fmt.{length-decimal-le}
 use Rattle.json.specs.Filled.{UsesSpare}
 use Rattle.json.specs.Print.{escape_byte, token_text}
-use Rattle.json.specs.Token.{key, string, number}
+use Rattle.json.specs.Token.{key, string}
 use Rattle.mf_wire.specs.Replies.{op_name}
 use Rattle.mf_wire.specs.declared.reply.Op.{Op}
 use Rattle.mf_wire.specs.declared.reply.Op.TheVariants.{Publish, Locale}

@@ -3,3 +3,4 @@ pub mod FirstLine
 pub mod Objects
 pub mod Printed
 pub mod AcceptedSize
+pub mod Rows

@@ -1,5 +1,5 @@
 -- The fields of a request's JSON object. A repeated key has the value that its reading gives it.
-use Rattle.std.specs.Prelude.{ℕ, ◌&&◌, Bool, List, [], ◌∷◌, length, nat_le, chars, Option, Some, None, option_map, option_and_then, is_some, if◌then◌else◌}
+use Rattle.std.specs.Prelude.{ℕ, ◌&&◌, Bool, List, [], ◌∷◌, length, nat_le, chars, Option, Some, None, option_map, option_and_then, if◌then◌else◌}
 use Rattle.serde_json.specs.Data.{Data, Members, no_members, member}
 use Rattle.std.specs.Option.{option_or}
 use Rattle.serde_json.specs.Find.{get, as_str, as_object, as_number, as_i64, as_u64}

@@ -1,14 +1,13 @@
 -- For private clauses: what a writer of JSON has after it has written a value, or a member of an object.
-use Rattle.std.specs.Prelude.{◌≡◌, ℕ, List, ◌∷◌, ◌++◌, codes}
+use Rattle.std.specs.Prelude.{◌≡◌, ℕ, List, [], ◌∷◌, ◌++◌}
 use Rattle.json.specs.Token.{Token, key}
 use Rattle.json.specs.Tree.{json_tokens}
 use Rattle.json.specs.Written.{Written}
-use Rattle.serde_json.specs.Data.{Data, number, string, object, unsigned, member, no_members}
+use Rattle.serde_json.specs.Data.{Data, number, string, unsigned, Members, no_members}
 use Rattle.serde_json.specs.Written.{outline}
-use Rattle.mf_wire.specs.FieldNames.{field_name}
-use Rattle.mf_wire.specs.Replies.{op_name}
-use Rattle.mf_wire.specs.declared.field.Field.{Field}
-use Rattle.mf_wire.specs.declared.reply.Op.{Op}
+use Rattle.mf_wire.specs.Replies.{number_member, text_member}
+use Rattle.mf_wire.specs.declared.writing.Member.{Member}
+use Rattle.mf_wire.specs.declared.writing.Member.TheVariants.{Number, Text}
 
 -- the tokens of a value
 abbrev pub data_tokens : Data → List Token
@@ -24,32 +23,16 @@ pub record WritesMember (name : List ℕ) (d : Data) (old new : Written) : Type 
   pub tokens : new.tokens ≡ old.tokens ++ key name ∷ data_tokens d
   pub before : new.before ≡ old.before
 
--- an object of a number and a text
-abbrev pub numbered_data : List ℕ → ℕ → List ℕ → List ℕ → Data
-numbered_data number_name n text_name text = object (member number_name (number (unsigned n)) (member text_name (string text) no_members))
+-- the members of an object that a row of the writer's table names, one after the other
+abbrev pub row_member : Member → Members → Members
+row_member (Number name n) others = number_member name.now n others
+row_member (Text name text) others = text_member name.now text.now others
 
--- an object of two texts
-abbrev pub texts_data : List ℕ → List ℕ → List ℕ → List ℕ → Data
-texts_data name text other_name other_text = object (member name (string text) (member other_name (string other_text) no_members))
+abbrev pub row_members : List Member → Members
+row_members [] = no_members
+row_members (first ∷ row) = row_member first (row_members row)
 
--- the object of a publication that is accepted
-abbrev pub accepted_data : ℕ → Op → Data
-accepted_data edition op = numbered_data (codes "edition") edition (codes "ok") (op_name op)
-
--- the object of the refusal of a request for this field
-abbrev pub bad_request_data : Field → Data
-bad_request_data field = texts_data (codes "error") (codes "bad-request") (codes "field") (field_name field)
-
--- the object of the refusal of a publication that would pass the limit of the log
-abbrev pub store_full_data : ℕ → ℕ → Data
-store_full_data used size = object
-    (member (codes "error") (string (codes "store-full"))
-    (member (codes "size") (number (unsigned size))
-    (member (codes "used") (number (unsigned used)) no_members)))
-
--- the object of the refusal of a request for a later edition than the newest
-abbrev pub not_yet_data : ℕ → ℕ → Data
-not_yet_data edition since = object
-    (member (codes "edition") (number (unsigned edition))
-    (member (codes "error") (string (codes "not-yet"))
-    (member (codes "since") (number (unsigned since)) no_members)))
+-- a member of a row is written
+abbrev pub WritesRowMember : Member → Written → Written → Type 0
+WritesRowMember (Number name n) old new = WritesMember name.now (number (unsigned n)) old new
+WritesRowMember (Text name text) old new = WritesMember name.now (string text.now) old new

@@ -1,10 +1,11 @@
 //! A reply written token by token, straight into the buffer of its line: no JSON value is made of it.
 
 ghost use Rattle.std.specs.Prelude.{◌≡◌, ◌<◌, codes, IfSome, OnErr, OnOk, encode_utf8_all};
-ghost use Rattle.serde_json.specs.Data.{number, string, array, unsigned, no_items};
+ghost use Rattle.serde_json.specs.Data.{number, object, string, array, unsigned, no_items};
 ghost use Rattle.mf_parts.specs.Joined.{text_of};
-ghost use Rattle.mf_wire.specs.Replies.{bad_locale_data, error_data, fault_data, faults_data, formatted_data, invalid_data, part_data, parts_data, reply_data, string_data, text_data, valid_data};
-ghost use Rattle.mf_wire.specs.Writing.{Writes, WritesMember, accepted_data, bad_request_data, not_yet_data, numbered_data, store_full_data, texts_data};
+ghost use Rattle.mf_wire.specs.Replies.{fault_data, faults_data, formatted_data, invalid_data, part_data, parts_data, reply_data, valid_data};
+ghost use Rattle.mf_wire.specs.Writing.{Writes, WritesMember, WritesRowMember, row_members};
+ghost use Rattle.mf_wire.specs.declared.reply.Reply.TheVariants as reply;
 
 use crate::field::Field;
 use crate::reply::{Op, Reply};
@@ -29,6 +30,13 @@ pub(crate) fn line_room(reply: &Reply) -> usize {
     texts.saturating_add(128)
 }
 
+/// A member of an object: its name, and a number or a text.
+#[derive(Clone, Copy)]
+enum Member<'a> {
+    Number(&'a str, u64),
+    Text(&'a str, &'a str),
+}
+
 /// Writes the object of a reply.
 pub(crate) fn write_reply(alloc: Global, out: &mut Writer, reply: &Reply) -> Result<(), AllocError>
     ensures { OnOk result (Writes (reply_data reply.now) out.old out.new) }
@@ -42,26 +50,84 @@ pub(crate) fn write_reply(alloc: Global, out: &mut Writer, reply: &Reply) -> Res
         } => write_formatted(alloc, out, *edition, tag, parts),
         Reply::LintValid { source } => write_valid(out, source),
         Reply::LintInvalid { faults } => write_invalid(out, faults),
-        Reply::BadJson => write_error(out, "bad-json"),
-        Reply::BadRequest { field } => write_bad_request(out, *field),
-        Reply::BadLocale { field, rule } => write_bad_locale(out, *field, *rule),
-        Reply::EditionsFull { entries } => write_numbered(
+        Reply::BadJson => write_row(out, &[Member::Text("error", "bad-json")]),
+        Reply::BadRequest { field } => write_row(
             out,
-            "entries",
-            *entries,
-            "error",
-            "editions-full",
+            &[
+                Member::Text("error", "bad-request"),
+                Member::Text("field", field.as_str()),
+            ],
         ),
-        Reply::StoreFull { used, size } => write_store_full(out, *used, *size),
-        Reply::NotBuilt => write_error(out, "not-built"),
-        Reply::NoMessage { edition } => write_numbered(
+        Reply::BadLocale { field, rule: None } => write_row(
             out,
-            "edition",
-            *edition,
-            "error",
-            "no-message",
+            &[
+                Member::Text("error", "bad-locale"),
+                Member::Text("field", field.as_str()),
+            ],
         ),
-        Reply::NotYet { edition, since } => write_not_yet(out, *edition, *since),
+        Reply::BadLocale {
+            field,
+            rule: Some(rule),
+        } => write_row(
+            out,
+            &[
+                Member::Text("error", "bad-locale"),
+                Member::Text("field", field.as_str()),
+                Member::Number("rule", u64::from(*rule)),
+            ],
+        ),
+        Reply::EditionsFull { entries } => write_row(
+            out,
+            &[
+                Member::Number("entries", *entries),
+                Member::Text("error", "editions-full"),
+            ],
+        ),
+        Reply::StoreFull { used, size } => write_row(
+            out,
+            &[
+                Member::Text("error", "store-full"),
+                Member::Number("size", *size),
+                Member::Number("used", *used),
+            ],
+        ),
+        Reply::NotBuilt => write_row(out, &[Member::Text("error", "not-built")]),
+        Reply::NoMessage { edition } => write_row(
+            out,
+            &[
+                Member::Number("edition", *edition),
+                Member::Text("error", "no-message"),
+            ],
+        ),
+        Reply::NotYet { edition, since } => write_row(
+            out,
+            &[
+                Member::Number("edition", *edition),
+                Member::Text("error", "not-yet"),
+                Member::Number("since", *since),
+            ],
+        ),
+    }
+}
+
+/// Writes an object of these members.
+fn write_row(out: &mut Writer, row: &[Member<'_>]) -> Result<(), AllocError>
+    ensures { OnOk result (Writes (object (row_members row.now)) out.old out.new) }
+{
+    out.begin_object()?;
+    for member in row {
+        write_member(out, member)?;
+    }
+    out.end_object()
+}
+
+/// Writes a member of a row.
+fn write_member(out: &mut Writer, member: &Member<'_>) -> Result<(), AllocError>
+    ensures { OnOk result (WritesRowMember member.now out.old out.new) }
+{
+    match *member {
+        Member::Number(name, n) => write_number(out, name, n),
+        Member::Text(name, text) => write_text(out, name, text),
     }
 }
 
@@ -90,50 +156,9 @@ fn write_no_errors(out: &mut Writer) -> Result<(), AllocError>
     out.end_array()
 }
 
-/// Writes an object that names an error alone.
-fn write_error(out: &mut Writer, name: &str) -> Result<(), AllocError>
-    ensures { OnOk result (Writes (error_data name.now) out.old out.new) }
-{
-    out.begin_object()?;
-    write_text(out, "error", name)?;
-    out.end_object()
-}
-
-/// Writes an object of a number and a text.
-fn write_numbered(
-    out: &mut Writer,
-    number_name: &str,
-    n: u64,
-    text_name: &str,
-    text: &str,
-) -> Result<(), AllocError>
-    ensures { OnOk result (Writes (numbered_data number_name.now n text_name.now text.now) out.old out.new) }
-{
-    out.begin_object()?;
-    write_number(out, number_name, n)?;
-    write_text(out, text_name, text)?;
-    out.end_object()
-}
-
-/// Writes an object of two texts.
-fn write_texts(
-    out: &mut Writer,
-    name: &str,
-    text: &str,
-    other_name: &str,
-    other_text: &str,
-) -> Result<(), AllocError>
-    ensures { OnOk result (Writes (texts_data name.now text.now other_name.now other_text.now) out.old out.new) }
-{
-    out.begin_object()?;
-    write_text(out, name, text)?;
-    write_text(out, other_name, other_text)?;
-    out.end_object()
-}
-
 /// Writes the object of a publication that is accepted. It fails only where there was room for fewer than 64 bytes.
 pub(crate) fn write_accepted(out: &mut Writer, edition: u64, op: Op) -> Result<(), AllocError>
-    ensures written { OnOk result (Writes (accepted_data edition op) out.old out.new) }
+    ensures written { OnOk result (Writes (reply_data (reply.Accepted edition op)) out.old out.new) }
     ensures room { OnErr result (out.old.spare < 64) }
 {
     out.begin_object()?;
@@ -141,52 +166,6 @@ pub(crate) fn write_accepted(out: &mut Writer, edition: u64, op: Op) -> Result<(
     out.u64(edition)?;
     out.key("ok")?;
     out.string(op.as_str())?;
-    out.end_object()
-}
-
-/// Writes the object of the refusal of a request for this field.
-fn write_bad_request(out: &mut Writer, field: Field) -> Result<(), AllocError>
-    ensures { OnOk result (Writes (bad_request_data field) out.old out.new) }
-{
-    write_texts(out, "error", "bad-request", "field", field.as_str())
-}
-
-/// Writes the object of the refusal of a locale record.
-fn write_bad_locale(
-    out: &mut Writer,
-    field: RecordField,
-    rule: Option<u32>,
-) -> Result<(), AllocError>
-    ensures { OnOk result (Writes (bad_locale_data field rule) out.old out.new) }
-{
-    out.begin_object()?;
-    write_text(out, "error", "bad-locale")?;
-    write_text(out, "field", field.as_str())?;
-    if let Some(rule) = rule {
-        write_number(out, "rule", u64::from(rule))?;
-    }
-    out.end_object()
-}
-
-/// Writes the object of the refusal of a publication that would pass the limit of the log.
-fn write_store_full(out: &mut Writer, used: u64, size: u64) -> Result<(), AllocError>
-    ensures { OnOk result (Writes (store_full_data used size) out.old out.new) }
-{
-    out.begin_object()?;
-    write_text(out, "error", "store-full")?;
-    write_number(out, "size", size)?;
-    write_number(out, "used", used)?;
-    out.end_object()
-}
-
-/// Writes the object of the refusal of a request for a later edition than the newest.
-fn write_not_yet(out: &mut Writer, edition: u64, since: u64) -> Result<(), AllocError>
-    ensures { OnOk result (Writes (not_yet_data edition since) out.old out.new) }
-{
-    out.begin_object()?;
-    write_number(out, "edition", edition)?;
-    write_text(out, "error", "not-yet")?;
-    write_number(out, "since", since)?;
     out.end_object()
 }
 
@@ -234,7 +213,13 @@ fn write_faults(out: &mut Writer, faults: &Faults) -> Result<(), AllocError>
 fn write_fault(out: &mut Writer, fault: &Fault) -> Result<(), AllocError>
     ensures { OnOk result (Writes (fault_data fault.now) out.old out.new) }
 {
-    write_texts(out, "kind", fault.kind.as_str(), "of", fault.of.as_str())
+    write_row(
+        out,
+        &[
+            Member::Text("kind", fault.kind.as_str()),
+            Member::Text("of", fault.of.as_str()),
+        ],
+    )
 }
 
 /// Writes the object of a formatted message.
@@ -260,7 +245,7 @@ fn write_formatted(
 
 /// Writes the member of the parts' text. The text of a part that is alone is written as it stands, with no copy made.
 fn write_joined(alloc: Global, out: &mut Writer, parts: &Parts) -> Result<(), AllocError>
-    ensures { OnOk result (WritesMember (codes "text") (text_data (text_of parts.now)) out.old out.new) }
+    ensures { OnOk result (WritesMember (codes "text") (string (encode_utf8_all (text_of parts.now))) out.old out.new) }
 {
     if let Some(text) = lone_text(parts) {
         return write_text(out, "text", text);
@@ -296,25 +281,43 @@ fn write_part(out: &mut Writer, part: &Part) -> Result<(), AllocError>
     ensures { OnOk result (Writes (part_data part.now) out.old out.new) }
 {
     match part {
-        Part::Text(text) => write_texts(out, "kind", "text", "value", text.as_str()),
+        Part::Text(text) => write_row(
+            out,
+            &[
+                Member::Text("kind", "text"),
+                Member::Text("value", text.as_str()),
+            ],
+        ),
         Part::Isolate(mark) => {
             let mut buffer = [0; 4];
             let mark = mark.encode_utf8(&mut buffer);
-            write_texts(out, "kind", "isolate", "value", mark)
+            write_row(
+                out,
+                &[Member::Text("kind", "isolate"), Member::Text("value", mark)],
+            )
         }
-        Part::String { value, id, .. } => write_string(out, id, value),
+        Part::String {
+            value,
+            id: None,
+            ..
+        } => write_row(
+            out,
+            &[
+                Member::Text("kind", "string"),
+                Member::Text("value", value.as_str()),
+            ],
+        ),
+        Part::String {
+            value,
+            id: Some(id),
+            ..
+        } => write_row(
+            out,
+            &[
+                Member::Text("id", id.as_str()),
+                Member::Text("kind", "string"),
+                Member::Text("value", value.as_str()),
+            ],
+        ),
     }
-}
-
-/// Writes the object of a string.
-fn write_string(out: &mut Writer, id: &Option<Text>, value: &Text) -> Result<(), AllocError>
-    ensures { OnOk result (Writes (string_data id.now value.now) out.old out.new) }
-{
-    out.begin_object()?;
-    if let Some(id) = id {
-        write_text(out, "id", id.as_str())?;
-    }
-    write_text(out, "kind", "string")?;
-    write_text(out, "value", value.as_str())?;
-    out.end_object()
 }
