@@ -1,49 +1,27 @@
--- Look-ups and parts, one member of a list after the other.
-use Rattle.std.proofs.Common.{◌≡◌, ◌∙◌, ℕ, suc, ◌+◌, ◌<◌, Bool, true, false, cond, List, [], ◌∷◌, ◌++◌, length, drop, get_or, Option, Some, None, refl, ap, sym, append_assoc, add-one}
-use Rattle.std.proofs.Math.Seq.{drop-cons}
-use Rattle.std.proofs.lemmas.Bool.{ltb-false}
+-- Parts, one piece after the other, and the answers that they make.
+use Rattle.std.proofs.Common.{◌≡◌, ◌∙◌, ◌<◌, ◌≤◌, ◌-◌, ◌^◌, ℕ, true, cond, List, [], ◌∷◌, ◌++◌, Option, Some, None, length, refl, ap, sym, subst, append_assoc, arith}
+use Rattle.std.proofs.lemmas.Bool.Decides.{nat_tests}
 use Rattle.std.proofs.lemmas.List.{append-nil}
-use Rattle.std.proofs.lemmas.Option.{slice_get_past}
-use Rattle.std.proofs.lemmas.List.Folds.{find_at}
-use Rattle.std.specs.List.{find, position, position_or_len, slice_get}
+use Rattle.std.specs.Bool.{MatchBool}
 use Rattle.std.specs.Option.{option_map, option_and_then}
+use Rattle.std.specs.Prelude.{encode_utf8_all, min, nat_lt, slice_get}
 use Rattle.mf_text.specs.declared.arguments.Argued.{Argued}
 use Rattle.mf_text.specs.declared.direction.Direction.TheVariants.{Ltr}
 use Rattle.mf_tree.specs.declared.pattern.Piece.{Piece}
+use Rattle.mf_locale.specs.Chain.{chain_of}
 use Rattle.mf_parts.specs.Isolation.{isolated_part}
+use Rattle.mf_parts.specs.Joined.{text_of}
 use Rattle.mf_parts.specs.declared.part.Part.{Part}
+use Rattle.mf_edition.proofs.EditionLaws.{newest, newest_number}
+use Rattle.mf_edition.specs.Edition.{edition_of, found_along, newest_edition, EditionState}
 use Rattle.mf_edition.specs.Items.{Item}
-use Rattle.mf2d.specs.Answers.{or_else, message_under, message_along, parts_of, piece_part}
-
-same_place : (within : Bool) (first place : ℕ) → Some place ≡ cond within (Some first) None → place ≡ first
-same_place true first place is = cc
-same_place false first place is = cc
-
-no_place : (within : Bool) (first : ℕ) → None ≡ cond within (Some first) None → within ≡ false
-no_place true first is = cc
-no_place false first is = refl
-
--- the member at the first place that passes is the first that passes
-pub found-position : {X : Type 0} (p : X → Bool) (xs : List X) (place : ℕ) → Some place ≡ position p xs → slice_get xs place ≡ find p xs
-found-position p xs place is = ap (slice_get xs) (same_place _ (position_or_len p xs) place is) ∙ sym (find_at p xs)
-
--- where no place passes, no member does
-pub missing-position : {X : Type 0} (p : X → Bool) (xs : List X) → None ≡ position p xs → None ≡ find p xs
-missing-position p xs is =
-    sym (find_at p xs ∙ slice_get_past xs (position_or_len p xs) (ltb-false (position_or_len p xs) (length xs) (no_place _ (position_or_len p xs) is)))
-
--- what is left at a place begins with the member there
-pub next_left : {X : Type 0} (xs : List X) (i : ℕ) (x : X) → i < length xs → x ≡ get_or xs i x → drop i xs ≡ x ∷ drop (i + 1) xs
-next_left xs i x inside is = drop-cons xs i x inside ∙ ap (λ first. first ∷ drop (suc i) xs) (sym is) ∙ rw add-one refl
-
--- a tag that has the message, and one that hasn't
-pub along-found : (items : List Item) (id tag : List ℕ) (tags : List (List ℕ)) (item : Item) → Some item ≡ message_under items id tag
-    → Some item ≡ message_along items id (tag ∷ tags)
-along-found items id tag tags item is = ap (λ (found : Option Item). or_else found (message_along items id tags)) is
-
-pub along-missing : (items : List Item) (id tag : List ℕ) (tags : List (List ℕ)) → None ≡ message_under items id tag
-    → message_along items id (tag ∷ tags) ≡ message_along items id tags
-along-missing items id tag tags is = ap (λ (found : Option Item). or_else found (message_along items id tags)) (sym is)
+use Rattle.mf_edition.specs.declared.change.Entry.{Entry}
+use Rattle.mf_edition.specs.declared.item.Found.{Found}
+use Rattle.mf_wire.specs.declared.reply.Reply.{Reply}
+use Rattle.mf_wire.specs.declared.reply.Reply.TheVariants.{Formatted, NotYet}
+use Rattle.mf2d.specs.Answers.{formatted, is_text_size, not_built, not_yet, IsAnswer, IsAnswerFrom, IsAnswerIn, IsAnswerOf}
+use Rattle.mf2d.specs.Flat.{parts_of, piece_part, HasFlatParts}
+use Rattle.mf2d.specs.Replies.{IsFormatReply}
 
 parts_joined : (done next : List Part) (more : Option (List Part))
     → option_map (λ parts. done ++ parts) (option_map (λ parts. next ++ parts) more) ≡ option_map (λ parts. (done ++ next) ++ parts) more
@@ -73,3 +51,41 @@ parts-none arguments all done piece more so_far is =
 -- no piece is left
 pub parts-all : (all : Option (List Part)) (done : List Part) → all ≡ option_map (λ parts. done ++ parts) (Some []) → Some done ≡ all
 parts-all all done so_far = sym (so_far ∙ ap Some (append-nil done))
+
+-- what the newest edition of a log answers is the answer of the log at its length
+pub newest_reply : (log : List Entry) (edition : EditionState) (tag id : List ℕ) (arguments : List (List ℕ × Argued)) (since : ℕ) (reply : Reply) → edition ≡ newest_edition log
+    → IsFormatReply (IsAnswerIn edition.number edition.items tag id arguments since) edition.number reply
+    → IsFormatReply (IsAnswer log (length log) tag id arguments since) (length log) reply
+newest_reply log edition tag id arguments since reply is answered =
+    subst (λ k. IsFormatReply (IsAnswerIn k (edition_of log (length log)).items tag id arguments since) k reply)
+    (ap (λ (edition : EditionState). edition.number) (newest log) ∙ newest_number log)
+    (subst (λ (edition : EditionState). IsFormatReply (IsAnswerIn edition.number edition.items tag id arguments since) edition.number reply) (is ∙ sym (newest log)) answered)
+
+-- the answer of a message that was found and has these parts
+pub found_reply : (arguments : List (List ℕ × Argued)) (items : List Item) (found : Found) (item : Item) (parts : List Part) (edition len : ℕ)
+    → slice_get items found.index ≡ Some item → HasFlatParts item.source arguments (Some parts) → len ≡ min (length (encode_utf8_all (text_of parts))) (2 ^ 64 - 1) → len ≤ 2 ^ 24
+    → IsFormatReply (IsAnswerOf arguments items found) edition (Formatted edition found.tag parts)
+found_reply arguments items found item parts edition len there flat is short =
+    let fits : is_text_size parts ≡ true = grind (arith, nat_tests, is, short) in
+    record {
+      answer = formatted found.tag parts;
+      answered = record {
+        item = item;
+        there = there;
+        parts = Some parts;
+        flat = flat;
+        is = ap (λ b. cond b (formatted found.tag parts) not_built) (sym fits);
+      };
+      is = refl;
+    }
+
+-- the answer of an edition that is too old
+pub old_reply : (k : ℕ) (items : List Item) (tag id : List ℕ) (arguments : List (List ℕ × Argued)) (since : ℕ) → k < since
+    → IsFormatReply (IsAnswerIn k items tag id arguments since) k (NotYet k since)
+old_reply k items tag id arguments since old =
+    let early : nat_lt k since ≡ true = grind (arith, nat_tests, old) in
+    record {
+      answer = not_yet since;
+      answered = subst (λ b. MatchBool b (not_yet since ≡ not_yet since) (IsAnswerFrom arguments items (found_along items id (chain_of tag)) (not_yet since))) (sym early) refl;
+      is = refl;
+    }

@@ -1,4 +1,4 @@
 pub mod Answering
-pub mod Editions
 pub mod OneOutput
+pub mod Publishing
 pub mod Serving

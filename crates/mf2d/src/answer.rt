@@ -1,12 +1,13 @@
-ghost use Rattle.std.specs.Prelude.{◌≡◌, IfOk, chars, option_and_then};
+ghost use Rattle.std.specs.Prelude.{◌≡◌, ◌<◌, IfOk, chars, length, option_and_then};
 ghost use Rattle.std.specs.Option.{option_copied};
-ghost use Rattle.mf_locale.specs.Chain.{chain_of};
-ghost use Rattle.mf2d.specs.Answers.{answer_since, formatted, lone_pattern as the_lone_pattern, lone_variable as the_lone_variable, message_along, message_under, parts_of, piece_part, source_parts, variable_part as part_of_variable};
+ghost use Rattle.mf2d.specs.Answers.{IsAnswerIn, IsAnswerOf};
+ghost use Rattle.mf2d.specs.Flat.{HasFlatParts, lone_pattern, lone_variable, parts_of, piece_part, variable_part};
+ghost use Rattle.mf2d.specs.Replies.{IsFormatReply};
 
-use mf_edition::{Edition, Item};
+use mf_edition::{Edition, Found};
 use mf_locale::{Tag, chain};
-use mf_parse::{ParseError, parse};
 use mf_parts::{Part, Parts, joined_len, push_isolated};
+use mf_plan::Plan;
 use mf_text::{Argued, Arguments, Direction, Text};
 use mf_tree::{Body, Expression, Message, Name, Operand, Pattern, Piece};
 use mf_wire::Reply;
@@ -18,8 +19,8 @@ const LONGEST_TEXT: u64 = 16_777_216;
 /// The most parts that a piece has: the one between two marks.
 const MOST_PARTS: usize = 3;
 
-/// The answer of an edition to a request for the message of an id, looked up along the chain of a tag, in an edition of
-/// at least the number `since`.
+/// The reply of an edition to a request for the message of an id, looked up along the chain of a tag,
+/// in an edition of at least the number `since`.
 pub(crate) fn answer(
     alloc: Global,
     edition: &Edition,
@@ -28,90 +29,68 @@ pub(crate) fn answer(
     arguments: &Arguments,
     since: u64,
 ) -> Result<Reply, AllocError>
-    ensures { IfOk result (λ reply. reply
-        ≡ answer_since edition.now.number since arguments.now (message_along edition.now.items id.now (chain_of tag.now))) }
+    ensures { IfOk result (λ reply. IsFormatReply
+        (IsAnswerIn edition.now.number edition.now.items tag.now id.now arguments.now since)
+        edition.now.number reply) }
 {
-    if edition.number() < since {
+    let number = edition.number();
+    if number < since {
         return Ok(Reply::NotYet {
-            edition: edition.number(),
+            edition: number,
             since,
         });
     }
-    let tags = chain(alloc, tag)?;
-    match find_along(edition, id, tags.as_slice()) {
-        Some(item) => format(alloc, edition.number(), item, arguments),
-        None => Ok(Reply::NoMessage {
-            edition: edition.number(),
-        }),
+    let chain = chain(alloc, tag)?;
+    match edition.find_along(chain, id) {
+        Some(found) => format(alloc, edition, found, arguments),
+        None => Ok(Reply::NoMessage { edition: number }),
     }
 }
 
-/// The message of an id under the first of these tags that has one.
-fn find_along<'e>(edition: &'e Edition, id: &Text, tags: &[Tag]) -> Option<&'e Item>
-    ensures { option_copied result ≡ message_along edition.now.items id.now tags.now }
-{
-    for tag in tags {
-        if let Some(item) = find(edition, id, tag) {
-            return Some(item);
-        }
-    }
-    None
-}
-
-/// The message of an id under a tag.
-fn find<'e>(edition: &'e Edition, id: &Text, tag: &Tag) -> Option<&'e Item>
-    ensures { option_copied result ≡ message_under edition.now.items id.now tag.now }
-{
-    match edition.find(tag, id) {
-        Some(place) => edition.item(place),
-        None => None,
-    }
-}
-
-/// The reply that formats a message.
+/// The reply that formats a message that was found.
 fn format(
     alloc: Global,
-    edition: u64,
-    item: &Item,
+    edition: &Edition,
+    found: Found,
     arguments: &Arguments,
 ) -> Result<Reply, AllocError>
-    ensures { IfOk result (λ reply. reply ≡ formatted edition item.now.tag (source_parts arguments.now item.now.source)) }
+    requires { found.index < length edition.now.items }
+    ensures { IfOk result (λ reply. IsFormatReply (IsAnswerOf arguments.now edition.now.items found) edition.now.number reply) }
 {
-    match message_parts(alloc, item.source(), arguments)? {
-        Some(parts) if joined_len(&parts) <= LONGEST_TEXT => {
-            let tag = Text::of(alloc, item.tag())?;
-            Ok(Reply::Formatted {
-                edition,
-                tag,
-                parts,
-            })
-        }
+    let Some(item) = edition.item(found.index) else {
+        unreachable!();
+    };
+    match source_parts(alloc, item.source(), arguments)? {
+        Some(parts) if joined_len(&parts) <= LONGEST_TEXT => Ok(Reply::Formatted {
+            edition: edition.number(),
+            tag: found.tag,
+            parts,
+        }),
         _ => Ok(Reply::NotBuilt),
     }
 }
 
-/// The parts of a source, if it spells a flat message and each of its variables has an argument.
-fn message_parts(
+/// The parts of a source, if it compiles to a flat message and each of its variables has an argument.
+fn source_parts(
     alloc: Global,
     source: &str,
     arguments: &Arguments,
 ) -> Result<Option<Parts>, AllocError>
-    ensures { IfOk result (λ parts. parts ≡ source_parts arguments.now (chars source.now)) }
+    ensures { IfOk result (λ parts. HasFlatParts (chars source.now) arguments.now parts) }
 {
-    match parse(alloc, source) {
-        Ok(message) => pattern_parts(alloc, message, arguments),
-        Err(ParseError::Syntax) => Ok(None),
-        Err(ParseError::OutOfMemory) => Err(AllocError),
+    match Plan::of(alloc, source)? {
+        Plan::Valid(message) => message_parts(alloc, message, arguments),
+        Plan::Invalid(_) => Ok(None),
     }
 }
 
 /// The parts of a message, if it is flat and each of its variables has an argument.
-fn pattern_parts(
+fn message_parts(
     alloc: Global,
     message: Message,
     arguments: &Arguments,
 ) -> Result<Option<Parts>, AllocError>
-    ensures { IfOk result (λ parts. parts ≡ option_and_then (parts_of arguments.now) (the_lone_pattern message.declarations message.body)) }
+    ensures { IfOk result (λ parts. parts ≡ option_and_then (parts_of arguments.now) (lone_pattern message.declarations message.body)) }
 {
     match lone_pattern(message) {
         Some(pattern) => parts(alloc, pattern, arguments),
@@ -121,7 +100,7 @@ fn pattern_parts(
 
 /// The pattern of a message that has no declarations and no matcher.
 fn lone_pattern(message: Message) -> Option<Pattern>
-    ensures { result ≡ the_lone_pattern message.declarations message.body }
+    ensures { result ≡ lone_pattern message.declarations message.body }
 {
     let Message { declarations, body } = message;
     match body {
@@ -161,7 +140,7 @@ fn expression_part(
     arguments: &Arguments,
 ) -> Result<Option<Part>, AllocError>
     ensures { IfOk result (λ part. part
-        ≡ option_and_then (part_of_variable arguments.now) (the_lone_variable expression.now.operand expression.now.function expression.now.attributes)) }
+        ≡ option_and_then (variable_part arguments.now) (lone_variable expression.now.operand expression.now.function expression.now.attributes)) }
 {
     match lone_variable(expression) {
         Some(name) => variable_part(name, arguments),
@@ -171,7 +150,7 @@ fn expression_part(
 
 /// The variable that stands alone in its braces.
 fn lone_variable(expression: &Expression) -> Option<&Name>
-    ensures { option_copied result ≡ the_lone_variable expression.now.operand expression.now.function expression.now.attributes }
+    ensures { option_copied result ≡ lone_variable expression.now.operand expression.now.function expression.now.attributes }
 {
     match (&expression.operand, &expression.function) {
         (Operand::Variable(name), None) if expression.attributes.is_empty() => Some(name),
@@ -181,7 +160,7 @@ fn lone_variable(expression: &Expression) -> Option<&Name>
 
 /// The part of a variable, if it has an argument.
 fn variable_part(name: &Name, arguments: &Arguments) -> Result<Option<Part>, AllocError>
-    ensures { IfOk result (λ part. part ≡ part_of_variable arguments.now name.now) }
+    ensures { IfOk result (λ part. part ≡ variable_part arguments.now name.now) }
 {
     match arguments.find(&name.value) {
         Some(Argued::Text(value)) => Ok(Some(Part::String {

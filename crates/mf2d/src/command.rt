@@ -1,7 +1,6 @@
-ghost use Rattle.std.specs.Prelude.{◌≡◌, ◌≢◌, ◌↔◌, ◌≤◌, ◌⊎◌, None, Some, chars};
+ghost use Rattle.std.specs.Prelude.{◌≡◌, ◌≤◌, chars};
 ghost use Rattle.mf_io.specs.Faults.{Rose};
-ghost use Rattle.mf_io.specs.Known.{ConsumesJust, ConsumesAtMost};
-ghost use Rattle.mf2d.specs.Commands.{cap_of, command_named, command_of, IsDone, IsDoneInPart};
+ghost use Rattle.mf2d.specs.Commands.{command_named, command_of, Outcome};
 
 use crate::lint::lint;
 use crate::pipe::pipe;
@@ -19,17 +18,17 @@ pub enum Command {
 }
 
 /// The command that the words after the program's name spell.
-fn read_command(words: &Texts) -> Option<Command>
+fn command_of(words: &Texts) -> Option<Command>
     ensures { result ≡ command_of words.now }
 {
     match words.as_slice() {
-        [word] => named(word.as_str()),
+        [word] => command_named(word.as_str()),
         _ => None,
     }
 }
 
 /// The command that a word alone spells.
-fn named(word: &str) -> Option<Command>
+fn command_named(word: &str) -> Option<Command>
     ensures { result ≡ command_named (chars word.now) }
 {
     if word == "pipe" {
@@ -53,34 +52,17 @@ fn named(word: &str) -> Option<Command>
 ///
 /// Any other words are `Usage`.
 pub fn top<S: Source, K: Sink>(alloc: Global, words: &Texts, source: &mut S, sink: &mut K) -> Status
-    // No command has these words, and nothing was read or written.
-    ensures usage { (result ≡ Status.Usage) ↔ (command_of words.now ≡ None) }
-    ensures untouched { (result ≡ Status.Usage) ⊎ (result ≡ Status.OutOfMemory)
-        → (source.new ≡ source.old) × (sink.new ≡ sink.old) }
+    // What was taken and written, by the words and the status.
+    ensures outcome { Outcome (command_of words.now) result (source.new ≡ source.old) (sink.new ≡ sink.old)
+        (S.left source.old) (S.left source.new) (K.taken sink.old) (K.taken sink.new) }
 
     // A fault comes only where its object's count rose, and no count falls.
     ensures read_fault { result ≡ Status.ReadFault → Rose (S.faults source.old) (S.faults source.new) }
     ensures write_fault { result ≡ Status.WriteFault → Rose (K.faults sink.old) (K.faults sink.new) }
     ensures source_count { S.faults source.old ≤ S.faults source.new }
     ensures sink_count { K.faults sink.old ≤ K.faults sink.new }
-
-    // What was taken and written, by the command.
-    ensures ended { result ≡ Status.Ended
-        → IsDone (command_of words.now) (S.left source.old) (S.left source.new) (K.taken sink.old) (K.taken sink.new) }
-    ensures stopped { result ≡ Status.WriteFault
-        → IsDoneInPart (command_of words.now) (S.left source.old) (S.left source.new) (K.taken sink.old) (K.taken sink.new) }
-    ensures full { result ≡ Status.InputFull
-        → (command_of words.now ≡ Some Command.Pipe) × ConsumesJust (cap_of (Some Command.Pipe)) (S.left source.old) (S.left source.new) }
-    ensures long { result ≡ Status.LineTooLong
-        → (command_of words.now ≡ Some Command.Lint) × ConsumesJust (cap_of (Some Command.Lint)) (S.left source.old) (S.left source.new) }
-    ensures unread { result ≡ Status.ReadFault
-        → ConsumesAtMost (cap_of (command_of words.now)) (S.left source.old) (S.left source.new) }
-    ensures silent { result ≢ Status.Ended → result ≢ Status.WriteFault → sink.new ≡ sink.old }
-
-    // The other status doesn't come.
-    ensures no_listener { result ≢ Status.ListenFault }
 {
-    match read_command(words) {
+    match command_of(words) {
         Some(Command::Pipe) => pipe(alloc, source, sink),
         Some(Command::Lint) => lint(alloc, source, sink),
         None => Status::Usage,

@@ -1,53 +1,41 @@
-ghost use Rattle.std.specs.Prelude.{◌≡◌, IfOk, OnErr, encode_utf8_all, length};
-ghost use Rattle.mf_wire.specs.Replies.{reply_line as line_of};
-ghost use Rattle.mf2d.specs.Answers.{answer as answered};
-ghost use Rattle.mf2d.specs.Served.{LineAnswered, RequestAnswered, empty_desk};
+ghost use Rattle.std.specs.Prelude.{◌≡◌, ◌≢◌, Err, IfOk, Ok, OnErr, encode_utf8_all, length};
+ghost use Rattle.std.specs.declared.result.Result.{Result};
+ghost use Rattle.mf_edition.specs.Sizes.{refused};
+ghost use Rattle.mf_edition.specs.declared.error.Refusal.{Refusal};
+ghost use Rattle.mf_wire.specs.Requests as refuses;
+ghost use Rattle.mf_wire.specs.declared.reply.Reply.{Reply};
+ghost use Rattle.mf_wire.specs.declared.request.Request.{Request};
+ghost use Rattle.mf2d.specs.Desks.{empty_desk, Answered, Serves};
+ghost use Rattle.mf2d.specs.Replies.{refusal_reply, IsReplyAt};
 
 use crate::answer::answer;
+use crate::lines::Clerk;
 use crate::lint::lint_reply;
-use mf_edition::{Change, Edition, Entry, Log, PublishError};
+use mf_edition::{Change, Entry, Publications, PublishError};
 use mf_locale::Tag;
 use mf_text::{Arguments, Text};
 use mf_wire::{Op, Reply, Request, WireError, read_request, reply_line};
 use std::alloc::{AllocError, Global};
 use std::marker::Model;
 
-/// What is kept from one line to the next: the log, and its newest edition.
+/// What one caller keeps from one line to the next: the accepted publications.
 #[derive(Drop)]
 pub struct Desk {
-    log: Log,
-    newest: Edition,
+    publications: Publications,
 }
 
 impl Model for Desk {
-    ghost use Rattle.std.specs.Prelude.{◌≡◌, length};
-    ghost use Rattle.mf_edition.specs.Edition.{edition_of};
-    ghost use Rattle.mf2d.specs.Served.{Desk as Known};
+    ghost use Rattle.mf2d.specs.Desks.{Desk as Known};
 
     ghost Value = { Known };
 
-    ghost view = { λ d. d.log };
-
-    ghost invariant = { λ d. d.newest ≡ edition_of d.log (length d.log) };
+    ghost view = { λ d. record { log = d.publications } };
 }
 
-impl Desk {
-    /// A desk at which nothing was published.
-    pub fn new(alloc: Global) -> Result<Desk, AllocError>
-        ensures { IfOk result (λ desk. desk ≡ empty_desk) }
-    {
-        let newest = Edition::empty(alloc)?;
-        Ok(Desk {
-            log: Log::new(alloc),
-            newest,
-        })
-    }
+impl Clerk for Desk {
+    ghost answers = { Answered };
 
-    /// The reply line to a line, without its line feed. Where there is no memory for it, nothing has changed.
-    pub fn answer(&mut self, alloc: Global, line: &[u8]) -> Result<Text, AllocError>
-        ensures ok { IfOk result (λ reply. LineAnswered self.old line.now (encode_utf8_all reply) self.new) }
-        ensures err { OnErr result (self.new ≡ self.old) }
-    {
+    fn answer(&mut self, alloc: Global, line: &[u8]) -> Result<Text, AllocError> {
         match read_request(alloc, line) {
             Ok(Request::Publish(change)) => self.publish(alloc, change),
             Ok(
@@ -57,51 +45,45 @@ impl Desk {
                     arguments,
                     since,
                 },
-            ) => self.format(alloc, &tag, &id, &arguments, since),
-            Ok(Request::Lint { source }) => reply_line(alloc, &lint_reply(alloc, &source)?),
-            Err(WireError::BadJson) => reply_line(alloc, &Reply::BadJson),
-            Err(WireError::BadRequest { field }) => reply_line(alloc, &Reply::BadRequest { field }),
-            Err(WireError::BadLocale { field, rule }) => reply_line(
-                alloc,
-                &Reply::BadLocale { field, rule },
-            ),
-            Err(WireError::NotBuilt) => reply_line(alloc, &Reply::NotBuilt),
-            Err(WireError::OutOfMemory) => Err(AllocError),
+            ) => reply_line(alloc, &self.format(alloc, &tag, &id, &arguments, since)?),
+            Ok(Request::Lint { source }) => {
+                reply_line(alloc, &lint_reply(alloc, source.as_str())?)
+            }
+            Err(error) => reply_line(alloc, &refusal(error)?),
         }
     }
+}
 
-    /// Publishes a change, and gives the reply line, or gives that of why it is refused. The line of an accepted one is
-    /// made first, so that nothing has changed where there is no memory.
+impl Desk {
+    /// A desk at which nothing was published.
+    pub fn new(alloc: Global) -> Result<Desk, AllocError>
+        ensures { IfOk result (λ desk. desk ≡ empty_desk) }
+    {
+        let publications = Publications::new(alloc)?;
+        Ok(Desk { publications })
+    }
+
+    /// Publishes a change, and gives the reply line, or gives that of why it is refused. The line of an
+    /// accepted one is made first, so that nothing has changed where there is no memory.
     fn publish(&mut self, alloc: Global, change: Change) -> Result<Text, AllocError>
-        ensures ok { IfOk result (λ reply. RequestAnswered (Request.Publish change) self.old (encode_utf8_all reply) self.new) }
+        ensures ok { IfOk result (λ line. Serves self.old (Ok (Request.Publish change)) (encode_utf8_all line) self.new) }
         ensures err { OnErr result (self.new ≡ self.old) }
     {
-        if !self.newest.has_room(&change) {
-            return Err(AllocError);
-        }
-        let number = self.newest.number() + 1;
-        let reply = reply_line(
-            alloc,
-            &Reply::Accepted {
-                edition: number,
-                op: Op::of(&change),
-            },
-        )?;
+        let edition = self.publications.log().len() + 1;
+        let op = Op::of(&change);
+        let line = reply_line(alloc, &Reply::Accepted { edition, op })?;
         let entry = Entry {
             caller: 0,
-            nth: number,
+            nth: edition,
             change,
         };
-        let refusal = match self.log.publish(&mut self.newest, entry) {
-            Ok(()) => return Ok(reply),
-            Err(PublishError::EditionsFull { entries }) => Reply::EditionsFull { entries },
-            Err(PublishError::StoreFull { used, size }) => Reply::StoreFull { used, size },
-            Err(PublishError::OutOfMemory) => return Err(AllocError),
-        };
-        reply_line(alloc, &refusal)
+        match self.publications.publish(entry) {
+            Ok(()) => Ok(line),
+            Err(error) => reply_line(alloc, &refused(error)?),
+        }
     }
 
-    /// The reply line to a request for a sentence.
+    /// The reply to a request for a sentence.
     fn format(
         &self,
         alloc: Global,
@@ -109,11 +91,35 @@ impl Desk {
         id: &Text,
         arguments: &Arguments,
         since: u64,
-    ) -> Result<Text, AllocError>
-        ensures { IfOk result (λ line. encode_utf8_all line
-            ≡ line_of (answered self.now (length self.now) tag.now id.now arguments.now since)) }
+    ) -> Result<Reply, AllocError>
+        ensures { IfOk result (λ reply. IsReplyAt self.now.log (length self.now.log)
+            (Request.Format tag.now id.now arguments.now since) reply) }
     {
-        let reply = answer(alloc, &self.newest, tag, id, arguments, since)?;
-        reply_line(alloc, &reply)
+        answer(alloc, self.publications.newest(), tag, id, arguments, since)
+    }
+}
+
+/// The reply to a publication that isn't made.
+fn refused(error: PublishError) -> Result<Reply, AllocError>
+    ensures reply { IfOk result (λ reply. (refusal : Refusal) → error ≡ refused refusal → reply ≡ refusal_reply refusal) }
+    ensures cause { IfOk result (λ _. error ≢ PublishError.OutOfMemory) }
+{
+    match error {
+        PublishError::EditionsFull { entries } => Ok(Reply::EditionsFull { entries }),
+        PublishError::StoreFull { used, size } => Ok(Reply::StoreFull { used, size }),
+        PublishError::OutOfMemory => Err(AllocError),
+    }
+}
+
+/// The reply to a line that makes no request.
+fn refusal(error: WireError) -> Result<Reply, AllocError>
+    ensures { IfOk result (λ reply. (asked : Result Request Reply) → refuses.IsDue asked error → asked ≡ Err reply) }
+{
+    match error {
+        WireError::BadJson => Ok(Reply::BadJson),
+        WireError::BadRequest { field } => Ok(Reply::BadRequest { field }),
+        WireError::BadLocale { field, rule } => Ok(Reply::BadLocale { field, rule }),
+        WireError::NotBuilt => Ok(Reply::NotBuilt),
+        WireError::OutOfMemory => Err(AllocError),
     }
 }

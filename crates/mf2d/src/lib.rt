@@ -5,12 +5,11 @@ mod answer;
 mod command;
 mod desk;
 pub mod laws;
+mod lines;
 mod lint;
 mod pipe;
 
 pub use command::{Command, top};
-pub use lint::LINT_CAP;
-pub use pipe::PIPE_CAP;
 
 #[cfg(test)]
 mod sentences;

@@ -1,4 +1,4 @@
-ghost use Rattle.std.specs.Prelude.{◌≡◌, ◌<◌, ◌^◌, length, map, position, slice_get, IfOk, OnErr, OnOk};
+ghost use Rattle.std.specs.Prelude.{◌≡◌, ◌<◌, ◌^◌, length, map, position, slice_get, IfOk, IfSome, OnErr, OnOk};
 ghost use Rattle.std.specs.Option.{option_copied};
 ghost use Rattle.mf_edition.specs.Edition.{changed, empty_edition, found_along, is_named, next_edition, put_all, recorded, HasRoom};
 ghost use Rattle.mf_edition.specs.Items.{item_of};
@@ -174,7 +174,8 @@ impl Edition {
     /// The message of an id under the first tag of a chain that has one: that tag, and the message's
     /// index.
     pub fn find_along(&self, chain: Tags, id: &Text) -> Option<Found>
-        ensures { result ≡ found_along self.now.items id.now chain }
+        ensures found { result ≡ found_along self.now.items id.now chain }
+        ensures inside { IfSome result (λ found. found.index < length self.now.items) }
     {
         for tag in chain.into_members() {
             if let Some(index) = self.find(&tag, id) {

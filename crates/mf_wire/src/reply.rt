@@ -5,7 +5,7 @@ use crate::field::Field;
 use crate::writing::{line_room, write_reply};
 use json::Writer;
 use mf_edition::Change;
-use mf_locale::RecordField;
+use mf_locale::{RecordField, Tag};
 use mf_parts::Parts;
 use mf_text::Text;
 use mf_tree::Faults;
@@ -53,7 +53,7 @@ pub enum Reply {
     /// The message of this edition that stands under this tag, formatted.
     Formatted {
         edition: u64,
-        tag: Text,
+        tag: Tag,
         parts: Parts,
     },
     /// The source is valid, and this is its canonical form.

@@ -1,6 +1,6 @@
 use super::*;
 use mf_edition::Change;
-use mf_locale::RecordField;
+use mf_locale::{RecordField, Tag};
 use mf_parts::{Part, Parts};
 use mf_text::{Argued, Direction, Text};
 use mf_tree::{Fault, Faults, Kind};
@@ -424,7 +424,7 @@ fn errors_of_a_source_are_objects(rt: HostRuntime) -> Result<(), Fail> {
 
 /// The line of a formatted message of these parts.
 fn formatted(alloc: Global, parts: Parts) -> Result<String, AllocError> {
-    let tag = Text::of(alloc, "und")?;
+    let tag = Tag::und(alloc)?;
     let reply = Reply::Formatted {
         edition: 1,
         tag,

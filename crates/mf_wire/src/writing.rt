@@ -47,7 +47,7 @@ pub(crate) fn write_reply(alloc: Global, out: &mut Writer, reply: &Reply) -> Res
             edition,
             tag,
             parts,
-        } => write_formatted(alloc, out, *edition, tag, parts),
+        } => write_formatted(alloc, out, *edition, tag.as_text(), parts),
         Reply::LintValid { source } => write_valid(out, source),
         Reply::LintInvalid { faults } => write_invalid(out, faults),
         Reply::BadJson => write_row(out, &[Member::Text("error", "bad-json")]),

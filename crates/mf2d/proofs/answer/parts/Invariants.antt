@@ -1,7 +1,7 @@
 use Rattle.std.proofs.Common.{◌≡◌, ◌++◌}
 use Rattle.std.specs.Option.{option_map}
 use Rattle.std.specs.Vec.Iter.{into_iter_items}
-use Rattle.mf2d.specs.Answers.{parts_of}
+use Rattle.mf2d.specs.Flat.{parts_of}
 use Rattle.mf2d.proofs.answer.parts.Given as goal
 
 -- the parts so far and those of the pieces that are left are those of all pieces

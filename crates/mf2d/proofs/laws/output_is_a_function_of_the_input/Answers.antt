@@ -1,6 +1,6 @@
 use Rattle.std.proofs.Common.{ap}
 use Rattle.mf2d.proofs.OneOutput.{served_once}
-use Rattle.mf2d.specs.Transcripts.{written}
+use Rattle.mf2d.specs.Served.{written}
 use Rattle.mf2d.proofs.laws.output_is_a_function_of_the_input.Goals as goal
 
 pub returns : goal.returns

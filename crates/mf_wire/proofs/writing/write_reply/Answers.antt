@@ -1,6 +1,6 @@
 use Rattle.std.proofs.Common.{OnOk, codes, subst}
 use Rattle.serde_json.specs.Data.{object, no_members}
-use Rattle.mf_wire.specs.Replies.{text_member}
+use Rattle.mf_wire.specs.Replies.{formatted_data, text_member}
 use Rattle.mf_wire.specs.Writing.{Writes}
 use Rattle.mf_wire.proofs.writing.write_reply.Goals as goal
 
@@ -19,3 +19,9 @@ returns-in-StoreFull c = rw c.in-StoreFull.is c.write_row-in-StoreFull.ensures
 
 pub returns-in-NotBuilt : goal.returns-in-NotBuilt
 returns-in-NotBuilt c = rw c.in-NotBuilt.is c.write_row-in-NotBuilt.ensures
+
+pub returns-in-Formatted : goal.returns-in-Formatted
+returns-in-Formatted c =
+    rw c.in-Formatted.is (
+    subst (λ tag. OnOk c.write_formatted.result (Writes (formatted_data c.in-Formatted.edition tag c.in-Formatted.parts) c.args.out.now c.write_formatted.new.out))
+    c.as_text.ensures.text c.write_formatted.ensures)

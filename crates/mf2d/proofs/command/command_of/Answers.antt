@@ -1,7 +1,7 @@
 -- By the number of words.
 use Rattle.std.proofs.Common.{◌≡◌, ℕ, ◌<◌, ◌≤◌, List, [], ◌∷◌, length, get_or, None, ap, ◌∙◌, arith, refl}
 use Rattle.mf2d.specs.Commands.{command_of, command_named}
-use Rattle.mf2d.proofs.command.read_command.Goals as goal
+use Rattle.mf2d.proofs.command.command_of.Goals as goal
 
 one_word : (words : List (List ℕ)) (word : List ℕ) → 1 ≤ length words → length words < 2
     → word ≡ get_or words 0 word → command_named word ≡ command_of words
@@ -20,7 +20,7 @@ many_words (first ∷ next ∷ words) many = refl
 
 pub returns-in-len1 : goal.returns-in-len1
 returns-in-len1 c =
-    c.named.ensures
+    c.command_named.ensures
     ∙ ap command_named c.as_str.ensures.characters
     ∙ one_word c.as_slice.result.now c.word-item.result c.in-len1.len_at_least c.in-len1.len_below c.word-item.is
     ∙ ap command_of c.as_slice.ensures

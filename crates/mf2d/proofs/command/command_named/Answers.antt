@@ -8,7 +8,7 @@ use Rattle.mf_text.proofs.SameTexts.{same_tests}
 use Rattle.mf2d.specs.Commands.{command_named}
 use Rattle.mf2d.specs.declared.command.Command.{Command}
 use Rattle.mf2d.specs.declared.command.Command.TheVariants.{Pipe, Lint}
-use Rattle.mf2d.proofs.command.named.Goals as goal
+use Rattle.mf2d.proofs.command.command_named.Goals as goal
 
 pipe_chars : chars (codes "pipe") ≡ codes "pipe"
 unfolding chars

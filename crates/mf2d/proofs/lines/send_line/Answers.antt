@@ -3,7 +3,7 @@ use Rattle.std.proofs.Common.{[], ◌∷◌}
 use Rattle.std.proofs.lemmas.Result.{on_err_weaker}
 use Rattle.mf_io.proofs.Told.{TakesFront-after}
 use Rattle.mf_wire.specs.Lines.{line_feed}
-use Rattle.mf2d.proofs.pipe.send_line.Goals as goal
+use Rattle.mf2d.proofs.lines.send_line.Goals as goal
 
 pub returns-clause-stopped : goal.returns-clause-stopped
 returns-clause-stopped g c =
