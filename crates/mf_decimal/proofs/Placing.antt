@@ -2,7 +2,7 @@
 use Rattle.std.proofs.Common.{◌≡◌, ℕ, ◌+◌, ◌-◌, ◌*◌, ◌^◌, ◌<◌, ◌≤◌, ◌%◌, inl, inr, refl, arith}
 use Rattle.std.proofs.Math.Nat.{mul-le-mul, mul-lt-mul_of_pos_right, mul-pos}
 use Rattle.mf_decimal.specs.Amount.{IsSame, shifted}
-use Rattle.mf_decimal.specs.Literal.{IsWide}
+use Rattle.mf_decimal.specs.Grammar.{IsWide}
 use Rattle.mf_decimal.proofs.Tens.{ten_pos, ten_le, ten_sum}
 
 -- moved down past all zeros

@@ -12,7 +12,7 @@ use Rattle.std.proofs.lemmas.List.{append-nil, length-append}
 use Rattle.std.proofs.lemmas.Nat.{mod_below, div-add-mod'}
 use Rattle.std.proofs.lemmas.Str.{digit_value_digit, chars-IsAscii}
 use Rattle.mf_decimal.specs.declared.decimal.Decimal.{Decimal}
-use Rattle.mf_decimal.specs.Literal.{Literal, Spells, SpellsSign, SpellsWhole, SpellsFraction, DecimalOf, IsValue}
+use Rattle.mf_decimal.specs.Grammar.{Literal, Spells, SpellsSign, SpellsWhole, SpellsFraction, DecimalOf, IsValue}
 use Rattle.mf_decimal.specs.Text.{in_digits, sign_text, fraction_text, exact_text}
 use Rattle.mf_decimal.proofs.Tens.{ten_pos}
 use Rattle.mf_decimal.proofs.DigitSteps.{digits_append}

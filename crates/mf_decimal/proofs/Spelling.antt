@@ -7,7 +7,7 @@ use Rattle.std.proofs.lemmas.Str.Parse.{digit_from_value}
 use Rattle.std.proofs.lemmas.Bool.Decides.{nat_tests}
 use Rattle.std.proofs.lemmas.Bool.{false≢true}
 use Rattle.std.proofs.lemmas.List.{append-nil}
-use Rattle.mf_decimal.specs.Literal.{Literal, Spells, IsNumber, SpellsSign, SpellsWhole, SpellsFraction, SpellsExponent, SpellsExponentSign}
+use Rattle.mf_decimal.specs.Grammar.{Literal, Spells, IsNumber, SpellsSign, SpellsWhole, SpellsFraction, SpellsExponent, SpellsExponentSign}
 use Rattle.mf_decimal.specs.Parts.{BeginsNoDigit, BeginsNoPoint, IsBarePoint, IsDigits, is_minus, after_minus, after_exponent_sign, LeavesFraction, IsExponent}
 
 pub head_of : (a b : ℕ) (xs ys : List ℕ) → a ∷ xs ≡ b ∷ ys → a ≡ b

@@ -11,7 +11,7 @@ use Rattle.mf_decimal.specs.declared.decimal.Decimal.{Decimal}
 use Rattle.mf_decimal.specs.declared.reading.NumberError.{NumberError}
 use Rattle.mf_decimal.specs.declared.reading.NumberError.TheVariants.{NotANumber, TooWide}
 use Rattle.mf_decimal.specs.Amount.{IsSame, amount}
-use Rattle.mf_decimal.specs.Literal.{Literal, Spells, SpellsSign, SpellsFraction, SpellsExponentSign, SpellsExponent, IsNumber, IsValue, DecimalOf, IsWide, IsTooWide, literal_amount}
+use Rattle.mf_decimal.specs.Grammar.{Literal, Spells, SpellsSign, SpellsFraction, SpellsExponentSign, SpellsExponent, IsNumber, IsValue, DecimalOf, IsWide, IsTooWide, literal_amount}
 use Rattle.mf_decimal.specs.Parts.{HasDigits}
 use Rattle.mf_decimal.proofs.Spelling.{minus_of, whole_of, fraction_of, same_exponent, whole_digits, tail_first, own_tail, leaves_own}
 use Rattle.mf_decimal.proofs.Values.{not_wide, some_under}

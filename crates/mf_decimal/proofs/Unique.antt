@@ -10,7 +10,7 @@ use Rattle.mf_decimal.specs.declared.shown.Shown.{Shown}
 use Rattle.mf_decimal.specs.declared.shown.Digits.{Digits}
 use Rattle.mf_decimal.specs.declared.shown.Digits.TheVariants.{Fraction, Significant}
 use Rattle.mf_decimal.specs.Amount.{Amount, IsSame, IsAtMost, ten_to, times, amount, shown_amount}
-use Rattle.mf_decimal.specs.Literal.{Literal, DecimalOf, IsTooWide, literal_amount}
+use Rattle.mf_decimal.specs.Grammar.{Literal, DecimalOf, IsTooWide, literal_amount}
 use Rattle.mf_decimal.specs.Rounding.{IsFirstPlace, IsUnit, IsNearest, IsLeast, IsShortest, RoundsTo, Rounds, or_zero}
 use Rattle.mf_decimal.proofs.Tens.{ten_pos, ten_le}
 use Rattle.mf_decimal.proofs.Nearest.{one_nearest}

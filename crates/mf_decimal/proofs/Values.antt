@@ -8,7 +8,7 @@ use Rattle.std.proofs.lemmas.Bool.{false≢true}
 use Rattle.std.proofs.lemmas.Int.Digits.{digits_value-lt}
 use Rattle.mf_decimal.specs.declared.decimal.Decimal.{Decimal}
 use Rattle.mf_decimal.specs.Amount.{Amount, IsSame, amount, shifted}
-use Rattle.mf_decimal.specs.Literal.{Literal, IsWide, IsValue, raised_by, lowered_by, literal_amount}
+use Rattle.mf_decimal.specs.Grammar.{Literal, IsWide, IsValue, raised_by, lowered_by, literal_amount}
 use Rattle.mf_decimal.specs.Significand.{IsLong, IsPlaced}
 use Rattle.mf_decimal.proofs.Tens.{ten_pos, ten_le, ten_sum, ten_add, ten_more}
 use Rattle.mf_decimal.proofs.DigitSteps.{digits_append}

@@ -1,4 +1,4 @@
--- How many of a decimal's digits rounding drops.
+-- For private clauses: how many of a decimal's digits rounding drops.
 use Rattle.std.specs.Prelude.{◌≡◌, ◌⊎◌, ℕ, ◌-◌, ◌*◌, ◌%◌, ◌^◌, ◌<◌, ◌≤◌, ℤ}
 use Rattle.mf_decimal.specs.declared.decimal.Decimal.{Decimal}
 use Rattle.mf_decimal.specs.declared.shown.Digits.{Digits}

@@ -3,7 +3,7 @@ use Rattle.std.specs.Prelude.{◌≡◌, ℕ, List}
 use Rattle.mf_decimal.specs.declared.decimal.Decimal.{Decimal}
 use Rattle.mf_decimal.specs.declared.shown.Shown.{Shown}
 use Rattle.mf_decimal.specs.declared.shown.Digits.{Digits}
-use Rattle.mf_decimal.specs.Literal.{DecimalOf, IsTooWide}
+use Rattle.mf_decimal.specs.Grammar.{DecimalOf, IsTooWide}
 use Rattle.mf_decimal.specs.Rounding.{Rounds}
 use Rattle.mf_decimal.specs.Text.{exact_text}
 

@@ -1,9 +1,9 @@
--- The parts of a number literal as they are read, one after the other.
+-- For private clauses: the parts of a number literal as they are read, one after the other.
 use Rattle.std.specs.Prelude.{◌≡◌, ◌≢◌, ℕ, ◌<◌, ◌≤◌, Bool, false, List, [], ◌∷◌, ◌++◌, ⊤, slice_index, if◌then◌else◌, ◌==◌, ◌||◌}
 use Rattle.std.specs.Char.{digit_value}
 use Rattle.std.specs.Str.Parse.{AllDigits}
 use Rattle.mf_decimal.specs.declared.parts.Parts.{Parts}
-use Rattle.mf_decimal.specs.Literal.{Literal, SpellsFraction, SpellsExponent}
+use Rattle.mf_decimal.specs.Grammar.{Literal, SpellsFraction, SpellsExponent}
 
 -- the byte at k is a digit
 abbrev pub IsDigitAt : List ℕ → ℕ → Type 0

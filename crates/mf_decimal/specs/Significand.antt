@@ -1,4 +1,4 @@
--- The digits of a number as they are read.
+-- For private clauses: the digits of a number as they are read.
 use Rattle.std.specs.Prelude.{◌≡◌, ℕ, Bool, ◌+◌, ◌*◌, ◌%◌, ◌^◌, ◌<◌, ◌≤◌}
 use Rattle.mf_decimal.specs.declared.decimal.Decimal.{Decimal}
 use Rattle.mf_decimal.specs.Amount.{Amount, IsSame, amount}

@@ -1,8 +1,8 @@
 //! The parts of a number literal, read once from front to back.
 
-ghost use Rattle.std.specs.Prelude.{◌≡◌, ◌≢◌, ℕ, ◌<◌, ◌≤◌, ◌↔◌, ◌++◌, length, IsTrue, IfSome, IfNone};
+ghost use Rattle.std.specs.Prelude.{◌≡◌, ℕ, ◌<◌, ◌≤◌, ◌↔◌, ◌++◌, length, IsTrue, IfSome, IfNone};
 ghost use Rattle.std.specs.Str.Parse.{AllDigits};
-ghost use Rattle.mf_decimal.specs.Literal.{Spells, SpellsWhole, SpellsExponent, IsNumber};
+ghost use Rattle.mf_decimal.specs.Grammar.{Spells, SpellsWhole, SpellsExponent, IsNumber};
 ghost use Rattle.mf_decimal.specs.Parts.{IsDigitAt, BeginsNoDigit, IsDigits, is_minus, after_minus, after_exponent_sign, IsBarePoint, LeavesFraction, IsExponent, literal};
 
 /// The parts of a number literal, as pieces of its text.

@@ -4,7 +4,7 @@ ghost use Rattle.std.specs.Prelude.{◌≡◌, ◌<◌, ◌≤◌, ◌+◌, ◌*
 ghost use Rattle.std.specs.Str.{chars};
 ghost use Rattle.std.specs.Str.Parse.{AllDigits, digits_value};
 ghost use Rattle.mf_decimal.specs.Amount.{shifted};
-ghost use Rattle.mf_decimal.specs.Literal.{IsNumber, IsValue, DecimalOf, IsWide, IsTooWide, literal_amount};
+ghost use Rattle.mf_decimal.specs.Grammar.{IsNumber, IsValue, DecimalOf, IsWide, IsTooWide, literal_amount};
 ghost use Rattle.mf_decimal.specs.Parts.{literal, HasDigits};
 ghost use Rattle.mf_decimal.specs.Significand.{IsPlaced};
 
@@ -93,7 +93,8 @@ fn exponent_value(digits: &[u8]) -> Option<u128>
 fn placed(negative: bool, digits: u128, raised: u128, lowered: u128) -> Option<Decimal>
     requires some { 0 < digits % 10 }
     requires short { digits < 10 ^ 36 }
-    ensures value { IfSome result (λ x. IsPlaced x negative (shifted (digits * 10 ^ raised) lowered)) }
+    ensures value { IfSome result
+        (λ x. IsPlaced x negative (shifted (digits * 10 ^ raised) lowered)) }
     ensures wide { IfNone result (IsWide (shifted (digits * 10 ^ raised) lowered)) }
 {
     if lowered > raised {

@@ -1,6 +1,6 @@
 //! Rounding to the digits that are shown, ties to even.
 
-ghost use Rattle.std.specs.Prelude.{◌≡◌, ◌<◌, ◌≤◌, ◌+◌, ◌-◌, ◌*◌, ◌/◌, ◌%◌, ◌^◌, ◌↔◌, IsTrue};
+ghost use Rattle.std.specs.Prelude.{◌<◌, ◌≤◌, ◌+◌, ◌-◌, ◌*◌, ◌/◌, ◌%◌, ◌^◌, ◌↔◌, IsTrue};
 ghost use Rattle.mf_decimal.specs.Amount.{IsSame, amount, shown_amount, shifted};
 ghost use Rattle.mf_decimal.specs.Rounding.{IsInRange, IsNearest, RoundsTo, IsLeast, IsShortest, Rounds};
 ghost use Rattle.mf_decimal.specs.Dropping.{IsDrop, IsDigitCount, IsTrimmed};

@@ -1,6 +1,6 @@
 //! The digits of a number, read one after the other.
 
-ghost use Rattle.std.specs.Prelude.{◌≡◌, ◌≢◌, ◌<◌, ◌≤◌, ◌+◌, ◌*◌, ◌%◌, ◌^◌, length, IfSome, IfNone};
+ghost use Rattle.std.specs.Prelude.{◌≡◌, ◌<◌, ◌≤◌, ◌+◌, ◌*◌, ◌%◌, ◌^◌, length, IfSome, IfNone};
 
 use crate::powers::ten_to;
 
@@ -51,9 +51,11 @@ impl Significand {
     pub fn with_digits(self, bytes: &[u8]) -> Option<Significand>
         requires digits { AllDigits 10 bytes.now }
         requires room { self.zeros + length bytes.now < 2 ^ 64 }
-        ensures value { IfSome result (λ s. worth s ≡ worth self * 10 ^ length bytes.now + digits_value 10 bytes.now) }
+        ensures value { IfSome result
+            (λ s. worth s ≡ worth self * 10 ^ length bytes.now + digits_value 10 bytes.now) }
         ensures zeros { IfSome result (λ s. s.zeros ≤ self.zeros + length bytes.now) }
-        ensures long { IfNone result (IsLong (worth self * 10 ^ length bytes.now + digits_value 10 bytes.now)) }
+        ensures long { IfNone result
+            (IsLong (worth self * 10 ^ length bytes.now + digits_value 10 bytes.now)) }
     {
         let mut number = self;
         for byte in bytes {

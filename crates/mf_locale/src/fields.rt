@@ -57,7 +57,8 @@ pub fn read_symbol(
     field: RecordField,
     least: usize,
 ) -> Result<Text, LocaleError>
-    ensures ok { IfOk result (λ symbol. fields.symbol_field least field (view value.now) ≡ Ok symbol) }
+    ensures ok { IfOk result
+        (λ symbol. fields.symbol_field least field (view value.now) ≡ Ok symbol) }
     ensures refused { IfErr result (IsDue (fields.symbol_field least field (view value.now))) }
 {
     let Some(symbol) = symbol_at(value, field, least) else {

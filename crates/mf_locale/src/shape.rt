@@ -1,5 +1,5 @@
 //! The shape of a tag, looked at byte by byte.
-ghost use Rattle.std.specs.Prelude.{◌≡◌, ◌==◌, chars};
+ghost use Rattle.std.specs.Prelude.{◌≡◌, chars};
 ghost use Rattle.std.specs.Char.{is_ascii_alphabetic, is_ascii_alphanumeric};
 ghost use Rattle.std.specs.List.{list_all};
 ghost use Rattle.mf_locale.specs.Tag.{are_subtags, is_first_subtag, is_further_subtag, is_tag, subtags};

@@ -48,7 +48,8 @@ impl Tag {
 
     /// The tag with its last subtag dropped, if it has more than one.
     pub(crate) fn shorter(&self, alloc: Global) -> Result<Option<Tag>, AllocError>
-        ensures truncated { IfOk result (λ tag. truncations self.now ≡ self.now ∷ each_truncation tag) }
+        ensures truncated { IfOk result
+            (λ tag. truncations self.now ≡ self.now ∷ each_truncation tag) }
         ensures shorter { IfOk result (λ tag. IfSome tag (λ t. length t < length self.now)) }
     {
         let text = self.text.as_str();

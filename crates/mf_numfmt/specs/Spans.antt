@@ -1,4 +1,4 @@
--- Digits as they are written, group by group.
+-- For private clauses: digits as they are written, group by group.
 use Rattle.std.specs.Prelude.{ℕ, zero, suc, ◌+◌, ◌-◌, List, [], ◌∷◌, ◌++◌, ◌==◌, if◌then◌else◌}
 use Rattle.mf_numfmt.specs.declared.layout.Layout.{Layout}
 use Rattle.mf_numfmt.specs.NumberText.{digit_at, digit_character}

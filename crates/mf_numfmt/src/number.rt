@@ -26,7 +26,8 @@ pub fn text(
 ) -> Result<Text, AllocError>
     requires some { 1 ≤ min_whole }
     requires few { min_whole ≤ 21 }
-    ensures { IfOk result (λ text. text ≡ number_text shown.now layout.now sign grouping min_whole) }
+    ensures { IfOk result
+        (λ text. text ≡ number_text shown.now layout.now sign grouping min_whole) }
 {
     let whole = Places::of(shown.whole);
     let digits = whole.count.max(min_whole as usize);

@@ -9,8 +9,7 @@ use std::test::Fail;
 const WHOLE: Digits = Digits::Fraction { min: 0, max: 0 };
 
 // English, with these symbols.
-fn english(alloc: Global, decimal: &str, group: &str, minus: &str) -> Result<Layout, AllocError>
-{
+fn english(alloc: Global, decimal: &str, group: &str, minus: &str) -> Result<Layout, AllocError> {
     Ok(Layout {
         decimal: Text::of(alloc, decimal)?,
         group: Text::of(alloc, group)?,
@@ -46,8 +45,7 @@ fn one_to_eight_digits(
     alloc: Global,
     layout: &Layout,
     grouping: Grouping,
-) -> Result<String, AllocError>
-{
+) -> Result<String, AllocError> {
     let mut texts = String::new(alloc);
     for number in [1, 12, 123, 1234, 12345, 123456, 1234567, 12345678] {
         let shown = of_u64(number).round(WHOLE);

@@ -17,7 +17,9 @@ pub fn push_whole(
     grouped: bool,
 ) -> Result<(), AllocError>
     requires within { count ≤ 56 }
-    ensures { OnOk result (string_bytes text.new ≡ string_bytes text.old ++ encode_utf8_all (places_text layout.now grouped whole.now.number count)) }
+    ensures { OnOk result
+        (string_bytes text.new ≡ string_bytes text.old
+        ++ encode_utf8_all (places_text layout.now grouped whole.now.number count)) }
 {
     let mut place = count;
     while place > 0 {
@@ -55,7 +57,9 @@ fn push_group(
 ) -> Result<(), AllocError>
     requires order { end ≤ place }
     requires within { place ≤ 56 }
-    ensures { OnOk result (string_bytes text.new ≡ string_bytes text.old ++ encode_utf8_all (group_text layout.now whole.now.number place end)) }
+    ensures { OnOk result
+        (string_bytes text.new ≡ string_bytes text.old
+        ++ encode_utf8_all (group_text layout.now whole.now.number place end)) }
 {
     push_span(text, whole, place, end)?;
     if end > 0 {
@@ -68,7 +72,9 @@ fn push_group(
 fn push_span(text: &mut String, number: &Places, place: usize, end: usize) -> Result<(), AllocError>
     requires order { end ≤ place }
     requires within { place ≤ 56 }
-    ensures { OnOk result (string_bytes text.new ≡ string_bytes text.old ++ encode_utf8_all (span_text number.now.number end (place - end))) }
+    ensures { OnOk result
+        (string_bytes text.new ≡ string_bytes text.old
+        ++ encode_utf8_all (span_text number.now.number end (place - end))) }
 {
     let mut at = place;
     while at > end {
@@ -81,7 +87,9 @@ fn push_span(text: &mut String, number: &Places, place: usize, end: usize) -> Re
 /// The character of a digit.
 fn push_digit(text: &mut String, digit: u8) -> Result<(), AllocError>
     requires { digit ≤ 9 }
-    ensures { OnOk result (string_bytes text.new ≡ string_bytes text.old ++ encode_utf8_all (digit_character digit ∷ [])) }
+    ensures { OnOk result
+        (string_bytes text.new ≡ string_bytes text.old
+        ++ encode_utf8_all (digit_character digit ∷ [])) }
 {
     text.push(char::from(b'0' + digit))
 }
@@ -94,7 +102,9 @@ pub fn push_fraction(
     layout: &Layout,
 ) -> Result<(), AllocError>
     requires { fraction_len ≤ 56 }
-    ensures { OnOk result (string_bytes text.new ≡ string_bytes text.old ++ encode_utf8_all (fraction_text layout.now fraction_len fraction)) }
+    ensures { OnOk result
+        (string_bytes text.new ≡ string_bytes text.old
+        ++ encode_utf8_all (fraction_text layout.now fraction_len fraction)) }
 {
     if fraction_len == 0 {
         return Ok(());

@@ -18,7 +18,8 @@ pub fn joined(alloc: Global, parts: &Parts) -> Result<Text, AllocError>
 
 /// Puts the text of a part at the end.
 fn push_part(text: &mut String, part: &Part) -> Result<(), AllocError>
-    ensures { OnOk result (string_bytes text.new ≡ string_bytes text.old ++ encode_utf8_all (part_text part.now)) }
+    ensures { OnOk result
+        (string_bytes text.new ≡ string_bytes text.old ++ encode_utf8_all (part_text part.now)) }
 {
     match part {
         Part::Text(piece) => text.push_str(piece.as_str()),

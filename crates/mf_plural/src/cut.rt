@@ -11,7 +11,8 @@ use crate::token::{Separator, Token};
 
 /// The tokens before the first such separator, and those after it, where there is one.
 pub fn cut(separator: Separator, tokens: &[Token]) -> (&[Token], Option<&[Token]>)
-    ensures cut { between separator tokens.now ≡ result.0.now ∷ between_rest separator (option_copied result.1) }
+    ensures cut { between separator tokens.now
+        ≡ result.0.now ∷ between_rest separator (option_copied result.1) }
     ensures shorter { IfSome result.1 (λ rest. length rest.now < length tokens.now) }
 {
     match separator_place(separator, tokens) {

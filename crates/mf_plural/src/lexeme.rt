@@ -1,6 +1,6 @@
 //! A rule cut into its tokens.
 
-ghost use Rattle.std.specs.Prelude.{◌≡◌, ◌<◌, ◌≤◌, ◌∷◌, [], length, take, drop, IfOk};
+ghost use Rattle.std.specs.Prelude.{◌≡◌, ◌<◌, ◌≤◌, ◌∷◌, length, take, drop, IfOk};
 ghost use Rattle.mf_plural.specs.Cuts.{BeginsWithToken};
 ghost use Rattle.mf_plural.specs.Computed.{lexemes, tokens_of};
 ghost use Rattle.mf_plural.specs.Computed as computed;

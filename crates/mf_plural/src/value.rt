@@ -1,7 +1,6 @@
 //! The values of operands.
 
 ghost use Rattle.std.specs.Prelude.{◌≡◌, ◌%◌, ◌<◌, Some};
-ghost use Rattle.std.specs.Option.{option_map};
 ghost use Rattle.mf_plural.specs.Choice as choice;
 ghost use Rattle.mf_plural.specs.declared.rule.Operand.TheVariants as operand;
 
@@ -11,7 +10,8 @@ use crate::rule::Operand;
 impl Operands {
     /// The whole number that an operand's value is, or its remainder by a modulus, if that has no fraction.
     pub fn whole_value(&self, operand: Operand, modulus: Option<u64>) -> Option<u128>
-        ensures { result ≡ choice.whole_of (choice.remainder modulus (choice.value_of self.now operand)) }
+        ensures { result
+            ≡ choice.whole_of (choice.remainder modulus (choice.value_of self.now operand)) }
     {
         match self.whole_operand(operand) {
             Some(value) => Some(remainder(value, modulus)),

@@ -3,7 +3,7 @@
 ghost use Rattle.std.specs.Prelude.{◌≡◌, IsTrue};
 ghost use Rattle.std.specs.Char.{is_ascii_digit};
 ghost use Rattle.std.specs.List.{list_all};
-ghost use Rattle.std.specs.Str.Parse.{AllDigits, digits_value};
+ghost use Rattle.std.specs.Str.Parse.{digits_value};
 ghost use Rattle.mf_plural.specs.Computed as computed;
 ghost use Rattle.mf_plural.specs.Grammar as grammar;
 

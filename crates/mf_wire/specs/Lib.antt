@@ -1,8 +1,10 @@
-pub mod FieldNames
-pub mod Fields
+-- Read in this order: the lines of an input and their JSON values; what a line asks for, by its fields; the reply lines.
+-- Writing is for private clauses.
 pub mod Lines
 pub mod Reading
-pub mod Replies
+pub mod FieldNames
+pub mod Fields
 pub mod RecordSizes
 pub mod Requests
+pub mod Replies
 pub mod Writing

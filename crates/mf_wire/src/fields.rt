@@ -1,4 +1,4 @@
-ghost use Rattle.std.specs.Prelude.{◌≡◌, [], IfOk, chars, option_map};
+ghost use Rattle.std.specs.Prelude.{◌≡◌, [], IfOk, option_map};
 ghost use Rattle.std.specs.Option.{option_copied};
 ghost use Rattle.serde_json.specs.Find.{get};
 ghost use Rattle.serde_json.specs.View.{view, members_view};
@@ -59,7 +59,9 @@ pub(crate) fn catalogue_field(
     name: &str,
     tag: Tag,
 ) -> Result<Option<Catalogue>, AllocError>
-    ensures { IfOk result (λ catalogue. catalogue ≡ option_map (fields.tagged tag) (fields.catalogue_field name.now (view object.now))) }
+    ensures { IfOk result
+        (λ catalogue. catalogue
+        ≡ option_map (fields.tagged tag) (fields.catalogue_field name.now (view object.now))) }
 {
     let Some(members) = object.get(name).and_then(Value::as_object) else {
         return Ok(None);
@@ -73,7 +75,9 @@ fn catalogue(
     members: &Map<String, Value>,
     tag: Tag,
 ) -> Result<Option<Catalogue>, AllocError>
-    ensures { IfOk result (λ catalogue. catalogue ≡ option_map (fields.tagged tag) (fields.catalogue_from (members_view members.now.entries))) }
+    ensures { IfOk result
+        (λ catalogue. catalogue
+        ≡ option_map (fields.tagged tag) (fields.catalogue_from (members_view members.now.entries))) }
 {
     if is_catalogue_size(members.len()) {
         messages(alloc, members, tag)
@@ -95,7 +99,9 @@ fn messages(
     members: &Map<String, Value>,
     tag: Tag,
 ) -> Result<Option<Catalogue>, AllocError>
-    ensures { IfOk result (λ catalogue. catalogue ≡ option_map (fields.tagged tag) (fields.messages_from (members_view members.now.entries))) }
+    ensures { IfOk result
+        (λ catalogue. catalogue
+        ≡ option_map (fields.tagged tag) (fields.messages_from (members_view members.now.entries))) }
 {
     let mut catalogue = Catalogue::new(alloc, tag, members.len())?;
     for (id, value) in members {
@@ -109,7 +115,8 @@ fn messages(
 
 /// The source of the message of an id.
 fn source<'v>(id: &str, value: &'v Value) -> Option<&'v str>
-    ensures { option_map (message_with id.now) (option_copied result) ≡ fields.message_from id.now (view value.now) }
+    ensures { option_map (message_with id.now) (option_copied result)
+        ≡ fields.message_from id.now (view value.now) }
 {
     if id.is_empty() || id.len() > LONGEST_ID {
         return None;
@@ -123,7 +130,8 @@ pub(crate) fn arguments_field(
     object: &Value,
     name: &str,
 ) -> Result<Option<Arguments>, AllocError>
-    ensures { IfOk result (λ arguments. arguments ≡ fields.arguments_of (get name.now (view object.now))) }
+    ensures { IfOk result
+        (λ arguments. arguments ≡ fields.arguments_of (get name.now (view object.now))) }
 {
     let Some(value) = object.get(name) else {
         return Ok(Some(Arguments::new(alloc)));
@@ -136,7 +144,8 @@ pub(crate) fn arguments_field(
 
 /// The arguments of an object: none where two names have one normal form.
 fn arguments(alloc: Global, members: &Map<String, Value>) -> Result<Option<Arguments>, AllocError>
-    ensures { IfOk result (λ arguments. arguments ≡ fields.arguments_from (members_view members.now.entries) []) }
+    ensures { IfOk result
+        (λ arguments. arguments ≡ fields.arguments_from (members_view members.now.entries) []) }
 {
     let mut arguments = Arguments::new(alloc);
     for (name, value) in members {

@@ -112,8 +112,10 @@ fn locale(alloc: Global, value: &Value) -> Result<Request, WireError>
 
 /// A publication of the record that an object is.
 fn locale_record(alloc: Global, tag: Tag, given: &Value) -> Result<Request, WireError>
-    ensures request { IfOk result (λ request. record_request tag (view given.now) (record_of (view given.now)) ≡ Ok request) }
-    ensures refused { IfErr result (IsDue (record_request tag (view given.now) (record_of (view given.now)))) }
+    ensures request { IfOk result
+        (λ request. record_request tag (view given.now) (record_of (view given.now)) ≡ Ok request) }
+    ensures refused { IfErr result
+        (IsDue (record_request tag (view given.now) (record_of (view given.now)))) }
 {
     let size = record_size(&tag, given);
     match read_record(alloc, given) {

@@ -158,7 +158,8 @@ fn write_no_errors(out: &mut Writer) -> Result<(), AllocError>
 
 /// Writes the object of a publication that is accepted. It fails only where there was room for fewer than 64 bytes.
 pub(crate) fn write_accepted(out: &mut Writer, edition: u64, op: Op) -> Result<(), AllocError>
-    ensures written { OnOk result (Writes (reply_data (reply.Accepted edition op)) out.old out.new) }
+    ensures written { OnOk result
+        (Writes (reply_data (reply.Accepted edition op)) out.old out.new) }
     ensures room { OnErr result (out.old.spare < 64) }
 {
     out.begin_object()?;
@@ -245,7 +246,8 @@ fn write_formatted(
 
 /// Writes the member of the parts' text. The text of a part that is alone is written as it stands, with no copy made.
 fn write_joined(alloc: Global, out: &mut Writer, parts: &Parts) -> Result<(), AllocError>
-    ensures { OnOk result (WritesMember (codes "text") (string (encode_utf8_all (text_of parts.now))) out.old out.new) }
+    ensures { OnOk result
+        (WritesMember (codes "text") (string (encode_utf8_all (text_of parts.now))) out.old out.new) }
 {
     if let Some(text) = lone_text(parts) {
         return write_text(out, "text", text);

@@ -1,6 +1,6 @@
 use Rattle.std.proofs.Common.{sym, ◌∙◌, rules}
 use Rattle.std.proofs.lemmas.Bool.{false≢true}
-use Rattle.mf_decimal.specs.Literal.{IsNumber}
+use Rattle.mf_decimal.specs.Grammar.{IsNumber}
 use Rattle.mf_decimal.proofs.Spelling.{spelled_by_parts, no_whole, no_fraction, no_exponent_left}
 use Rattle.mf_decimal.proofs.parts.split.Goals as goal
 

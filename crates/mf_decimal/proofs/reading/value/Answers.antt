@@ -1,7 +1,7 @@
 use Rattle.std.proofs.Common.{◌≡◌, ℕ, ◌+◌, ◌*◌, ◌^◌, length, arith, rules, refl, ap, ◌∙◌}
 use Rattle.mf_decimal.specs.declared.decimal.Decimal.{Decimal}
 use Rattle.mf_decimal.specs.Amount.{shifted}
-use Rattle.mf_decimal.specs.Literal.{IsWide, IsValue, literal_amount, raised_by, lowered_by}
+use Rattle.mf_decimal.specs.Grammar.{IsWide, IsValue, literal_amount, raised_by, lowered_by}
 use Rattle.mf_decimal.specs.Parts.{literal}
 use Rattle.mf_decimal.specs.Significand.{IsPlaced}
 use Rattle.mf_decimal.proofs.Values.{wide_whole, wide_all, all_value, zero_value, wide_exponent, placed_value, placed_wide, minus_moves, plus_moves}
