@@ -12,7 +12,7 @@ use Rattle.mf_edition.specs.Items.{Item}
 use Rattle.mf_edition.specs.declared.change.Entry.{Entry}
 use Rattle.mf_edition.specs.declared.item.Found.{Found}
 use Rattle.mf_wire.specs.Replies.{memory_line, reply_line}
-use Rattle.mf_wire.specs.Requests.{request_of}
+use Rattle.mf_wire.specs.Requests.{line_request}
 use Rattle.mf_wire.specs.declared.reply.Reply.{Reply}
 use Rattle.mf_wire.specs.declared.request.Request.{Request}
 use Rattle.mf_wire.specs.declared.request.Request.TheVariants.{Publish, Format, Lint}
@@ -73,7 +73,7 @@ served_line desk asked line other after kept a b = (
   λ i. record { log = (a.log ∙ sym b.log) i },
 )
 
-defined : (desk : Desk) (line reply : List ℕ) (after : Desk) → Answered desk line reply after → (reply ≡ memory_line → ⊥) → Serves desk (request_of line) reply after
+defined : (desk : Desk) (line reply : List ℕ) (after : Desk) → Answered desk line reply after → (reply ≡ memory_line → ⊥) → Serves desk (line_request line) reply after
 defined desk line reply after (inl memory) other = absurd (other memory.0)
 defined desk line reply after (inr serves) other = serves
 
@@ -88,7 +88,7 @@ served_once desk (line ∷ lines) [] others after kept one two calm quiet = absu
 served_once desk (line ∷ lines) (reply ∷ replies) [] after kept one two calm quiet = absurd two
 served_once desk (line ∷ lines) (reply ∷ replies) (other ∷ others) after kept one two calm quiet =
     let first : (reply ≡ other) × (one.0 ≡ two.0) =
-    served_line desk (request_of line) reply other one.0 two.0 (defined desk line reply one.0 one.1 calm.0) (defined desk line other two.0 two.1 quiet.0) in
+    served_line desk (line_request line) reply other one.0 two.0 (defined desk line reply one.0 one.1 calm.0) (defined desk line other two.0 two.1 quiet.0) in
     let further : (replies ≡ others) × (after ≡ kept) =
     served_once one.0 lines replies others after kept one.2 (subst (λ d. Served Answered d lines others kept) (sym first.1) two.2) calm.1 quiet.1 in
     (ap (λ r. r ∷ replies) first.0 ∙ ap (λ rs. other ∷ rs) further.0, further.1)

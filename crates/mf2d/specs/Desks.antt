@@ -5,7 +5,7 @@ use Rattle.mf_edition.specs.declared.change.Change.{Change}
 use Rattle.mf_edition.specs.declared.change.Entry.{Entry}
 use Rattle.mf_edition.specs.declared.error.Refusal.{Refusal}
 use Rattle.mf_wire.specs.Replies.{memory_line, reply_line}
-use Rattle.mf_wire.specs.Requests.{request_of}
+use Rattle.mf_wire.specs.Requests.{line_request}
 use Rattle.mf_wire.specs.declared.reply.Reply.{Reply}
 use Rattle.mf_wire.specs.declared.request.Request.{Request}
 use Rattle.mf_wire.specs.declared.request.Request.TheVariants.{Format, Lint, Publish}
@@ -44,4 +44,4 @@ pub record Serves (desk : Desk) (asked : Result Request Reply) (line : List ℕ)
 
 -- the line has the defined reply; or the memory line, which comes where there was no memory for it, and then the log stays
 abbrev pub Answered : Desk → List ℕ → List ℕ → Desk → Type 0
-Answered desk line reply after = ((reply ≡ memory_line) × (after.log ≡ desk.log)) ⊎ Serves desk (request_of line) reply after
+Answered desk line reply after = ((reply ≡ memory_line) × (after.log ≡ desk.log)) ⊎ Serves desk (line_request line) reply after

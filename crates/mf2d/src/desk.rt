@@ -14,7 +14,7 @@ use crate::lint::lint_reply;
 use mf_edition::{Change, Entry, Publications, PublishError};
 use mf_locale::Tag;
 use mf_text::{Arguments, Text};
-use mf_wire::{Op, Reply, Request, WireError, read_request, reply_line};
+use mf_wire::{Accepted, Reply, Request, WireError, read_request, reply_line};
 use std::alloc::{AllocError, Global};
 use std::marker::Model;
 
@@ -63,22 +63,21 @@ impl Desk {
         Ok(Desk { publications })
     }
 
-    /// Publishes a change, and gives the reply line, or gives that of why it is refused. The line of an
-    /// accepted one is made first, so that nothing has changed where there is no memory.
+    /// Publishes a change, and gives the reply line, or gives that of why it is refused. Room for the
+    /// line of an accepted one is made first, so that nothing has changed where there is no memory.
     fn publish(&mut self, alloc: Global, change: Change) -> Result<Text, AllocError>
         ensures ok { IfOk result (λ line. Serves self.old (Ok (Request.Publish change)) (encode_utf8_all line) self.new) }
         ensures err { OnErr result (self.new ≡ self.old) }
     {
         let edition = self.publications.log().len() + 1;
-        let op = Op::of(&change);
-        let line = reply_line(alloc, &Reply::Accepted { edition, op })?;
+        let accepted = Accepted::new(alloc, &change)?;
         let entry = Entry {
             caller: 0,
             nth: edition,
             change,
         };
         match self.publications.publish(entry) {
-            Ok(()) => Ok(line),
+            Ok(()) => Ok(accepted.line(edition)),
             Err(error) => reply_line(alloc, &refused(error)?),
         }
     }
