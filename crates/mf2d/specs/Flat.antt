@@ -1,9 +1,9 @@
 -- The parts of a flat message: a pattern of texts and of lone variables, each of which has an argument.
-use Rattle.std.specs.Prelude.{◌≡◌, ℕ, false, List, [], ◌∷◌, ◌++◌, Option, Some, None, option_map, option_and_then}
+use Rattle.std.specs.Prelude.{◌≡◌, ℕ, false, List, [], ◌∷◌, Option, Some, None, option_map, option_and_then}
 use Rattle.mf_text.specs.Arguments.{argument_named}
 use Rattle.mf_text.specs.declared.arguments.Argued.{Argued}
 use Rattle.mf_text.specs.declared.arguments.Argued.TheVariants as argued
-use Rattle.mf_text.specs.declared.direction.Direction.TheVariants.{Ltr, Unknown}
+use Rattle.mf_text.specs.declared.direction.Direction.TheVariants.{Unknown}
 use Rattle.mf_tree.specs.Compiled.{Compilation, Compiled, Invalid, Valid}
 use Rattle.mf_tree.specs.declared.name.Name.{Name}
 use Rattle.mf_tree.specs.declared.expression.Operand.{Operand}
@@ -15,7 +15,6 @@ use Rattle.mf_tree.specs.declared.pattern.Piece.TheVariants as piece
 use Rattle.mf_tree.specs.declared.message.Declaration.{Declaration}
 use Rattle.mf_tree.specs.declared.message.Body.{Body}
 use Rattle.mf_tree.specs.declared.message.Body.TheVariants as body
-use Rattle.mf_parts.specs.Isolation.{isolated_part}
 use Rattle.mf_parts.specs.declared.part.Part.{Part}
 use Rattle.mf_parts.specs.declared.part.Part.TheVariants as part
 
@@ -43,11 +42,11 @@ piece_part arguments (piece.Text text) = Some (part.Text text)
 piece_part arguments (piece.Expression expression) = option_and_then (variable_part arguments) (lone_variable expression.operand expression.function expression.attributes)
 piece_part arguments (piece.Markup markup) = None
 
--- the parts of pieces with their isolates, in a message that goes from left to right, as the root record says
+-- the parts of pieces
 abbrev pub parts_of : List (List ℕ × Argued) → List Piece → Option (List Part)
 parts_of arguments [] = Some []
 parts_of arguments (piece ∷ pieces) =
-    option_and_then (λ part. option_map (λ parts. isolated_part Ltr part ++ parts) (parts_of arguments pieces)) (piece_part arguments piece)
+    option_and_then (λ part. option_map (λ parts. part ∷ parts) (parts_of arguments pieces)) (piece_part arguments piece)
 
 -- the pattern of a message that has no declarations and no matcher
 abbrev pub lone_pattern : List Declaration → Body → Option (List Piece)

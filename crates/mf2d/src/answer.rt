@@ -1,12 +1,12 @@
-ghost use Rattle.std.specs.Prelude.{◌≡◌, ◌<◌, IfOk, chars, length, option_and_then};
+ghost use Rattle.std.specs.Prelude.{◌≡◌, ◌<◌, IfOk, Some, chars, length, option_and_then};
 ghost use Rattle.std.specs.Option.{option_copied};
-ghost use Rattle.mf2d.specs.Answers.{IsAnswerIn, IsAnswerOf};
+ghost use Rattle.mf2d.specs.Answers.{answer_of, IsAnswerIn, IsAnswerOf};
 ghost use Rattle.mf2d.specs.Flat.{HasFlatParts, lone_pattern, lone_variable, parts_of, piece_part, variable_part};
-ghost use Rattle.mf2d.specs.Replies.{IsFormatReply};
+ghost use Rattle.mf2d.specs.Replies.{answer_reply, IsFormatReply};
 
 use mf_edition::{Edition, Found};
 use mf_locale::{Tag, chain};
-use mf_parts::{Part, Parts, joined_len, push_isolated};
+use mf_parts::{Part, Parts, isolate, joined_len};
 use mf_plan::Plan;
 use mf_text::{Argued, Arguments, Direction, Text};
 use mf_tree::{Body, Expression, Message, Name, Operand, Pattern, Piece};
@@ -15,9 +15,6 @@ use std::alloc::{AllocError, Global};
 
 /// The most bytes that the text of a formatted message may have.
 const LONGEST_TEXT: u64 = 16_777_216;
-
-/// The most parts that a piece has: the one between two marks.
-const MOST_PARTS: usize = 3;
 
 /// The reply of an edition to a request for the message of an id, looked up along the chain of a tag,
 /// in an edition of at least the number `since`.
@@ -30,7 +27,7 @@ pub(crate) fn answer(
     since: u64,
 ) -> Result<Reply, AllocError>
     ensures { IfOk result (λ reply. IsFormatReply
-        (IsAnswerIn edition.now.number edition.now.items tag.now id.now arguments.now since)
+        (IsAnswerIn edition.now.number edition.now tag.now id.now arguments.now since)
         edition.now.number reply) }
 {
     let number = edition.number();
@@ -47,7 +44,8 @@ pub(crate) fn answer(
     }
 }
 
-/// The reply that formats a message that was found.
+/// The reply that formats a message that was found, with the isolates that its parts get in the
+/// direction of the record of its tag.
 fn format(
     alloc: Global,
     edition: &Edition,
@@ -55,18 +53,30 @@ fn format(
     arguments: &Arguments,
 ) -> Result<Reply, AllocError>
     requires { found.index < length edition.now.items }
-    ensures { IfOk result (λ reply. IsFormatReply (IsAnswerOf arguments.now edition.now.items found) edition.now.number reply) }
+    ensures { IfOk result (λ reply. IsFormatReply (IsAnswerOf arguments.now edition.now found) edition.now.number reply) }
 {
     let Some(item) = edition.item(found.index) else {
         unreachable!();
     };
+    let dir = edition.place_for(&found.tag).dir;
     match source_parts(alloc, item.source(), arguments)? {
-        Some(parts) if joined_len(&parts) <= LONGEST_TEXT => Ok(Reply::Formatted {
-            edition: edition.number(),
-            tag: found.tag,
+        Some(parts) => Ok(formatted(edition.number(), found.tag, isolate(alloc, parts, dir)?)),
+        None => Ok(Reply::NotBuilt),
+    }
+}
+
+/// The reply with these parts, if their text isn't too long.
+fn formatted(edition: u64, tag: Tag, parts: Parts) -> Reply
+    ensures { result ≡ answer_reply edition (answer_of tag (Some parts)) }
+{
+    if joined_len(&parts) <= LONGEST_TEXT {
+        Reply::Formatted {
+            edition,
+            tag,
             parts,
-        }),
-        _ => Ok(Reply::NotBuilt),
+        }
+    } else {
+        Reply::NotBuilt
     }
 }
 
@@ -113,12 +123,12 @@ fn lone_pattern(message: Message) -> Option<Pattern>
 fn parts(alloc: Global, pieces: Pattern, arguments: &Arguments) -> Result<Option<Parts>, AllocError>
     ensures { IfOk result (λ parts. parts ≡ parts_of arguments.now pieces) }
 {
-    let mut parts = Parts::with_capacity(alloc, pieces.len().saturating_mul(MOST_PARTS))?;
+    let mut parts = Parts::with_capacity(alloc, pieces.len())?;
     for piece in pieces.into_members() {
         let Some(part) = part(piece, arguments)? else {
             return Ok(None);
         };
-        parts = push_isolated(parts, part, Direction::Ltr)?;
+        parts.push(part)?;
     }
     Ok(Some(parts))
 }

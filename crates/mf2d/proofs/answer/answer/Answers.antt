@@ -8,6 +8,6 @@ use Rattle.mf2d.proofs.answer.answer.Goals as goal
 pub returns-then-number-since : goal.returns-then-number-since
 returns-then-number-since c =
     let edition = c.args.edition.now in
-    subst (λ number. IsFormatReply (IsAnswerIn edition.number edition.items c.args.tag.now c.args.id.now c.args.arguments.now c.args.since) edition.number (NotYet number c.args.since)) (sym c.number-number.ensures)
-    (old_reply edition.number edition.items c.args.tag.now c.args.id.now c.args.arguments.now c.args.since
+    subst (λ number. IsFormatReply (IsAnswerIn edition.number edition c.args.tag.now c.args.id.now c.args.arguments.now c.args.since) edition.number (NotYet number c.args.since)) (sym c.number-number.ensures)
+    (old_reply edition.number edition c.args.tag.now c.args.id.now c.args.arguments.now c.args.since
     (subst (λ number. number < c.args.since) c.number-number.ensures c.if-number-since.true))
