@@ -174,7 +174,7 @@ fn a_fault_ends_the_run(rt: HostRuntime) -> Result<(), Fail> {
 #[test]
 fn an_input_has_a_cap(rt: HostRuntime) -> Result<(), Fail> {
     let alloc = rt.alloc();
-    let cap = PIPE_CAP as usize;
+    let cap = 16_777_216 as usize;
     let rows = [
         (cap - 1, Status::Ended),
         (cap, Status::InputFull),
@@ -228,7 +228,7 @@ fn a_source_is_linted(rt: HostRuntime) -> Result<(), Fail> {
 #[test]
 fn a_source_has_a_cap(rt: HostRuntime) -> Result<(), Fail> {
     let alloc = rt.alloc();
-    let most = LINT_CAP as usize - 1;
+    let most = 1_048_577 as usize - 1;
     let rows = [
         (b'a', most, Status::Ended),
         (b'\xff', most, Status::Ended),
