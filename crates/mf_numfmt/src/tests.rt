@@ -1,5 +1,8 @@
 //! Worked values from outside the definitions.
 
+ghost use Rattle.std.specs.Prelude.{◌≡◌};
+ghost use Rattle.mf_numfmt.specs.Sizes.{is_size as size_test};
+
 use crate::{Grouping, Layout, Sign, text};
 use mf_decimal::{Digits, of_i64, of_u64, read};
 use mf_text::Text;
@@ -7,6 +10,13 @@ use std::alloc::{AllocError, Global};
 use std::test::Fail;
 
 const WHOLE: Digits = Digits::Fraction { min: 0, max: 0 };
+
+// Whether a group may have so many digits.
+fn is_size(digits: u32) -> bool
+    ensures { result ≡ size_test digits }
+{
+    digits >= 1 && digits <= 9
+}
 
 // English, with these symbols.
 fn english(alloc: Global, decimal: &str, group: &str, minus: &str) -> Result<Layout, AllocError> {
@@ -88,15 +98,17 @@ fn separators_stand_where_enough_digits_do(rt: HostRuntime) -> Result<(), Fail> 
             (Grouping::Min2, 1, two),
             (Grouping::Min2, 2, two),
         ] {
-            let symbols = english(rt.alloc(), ".", ",", "-")?;
+            let english = english(rt.alloc(), ".", ",", "-")?;
+            assert!(rt; is_size(primary) && is_size(secondary) && is_size(min_group));
             let layout = Layout {
+                decimal: english.decimal,
+                group: english.group,
+                minus: english.minus,
+                plus: english.plus,
                 primary,
                 secondary,
                 min_group,
-                ..symbols
             };
-            assert!(rt; 1 <= primary && primary <= 9 && 1 <= secondary && secondary <= 9);
-            assert!(rt; 1 <= min_group && min_group <= 9);
             let texts = one_to_eight_digits(rt.alloc(), &layout, grouping)?;
             assert_eq!(rt; texts.as_str(), expected);
         }
