@@ -5,7 +5,7 @@ use Rattle.std.specs.Cmp.Lexicographic.{pointwise}
 use Rattle.std.specs.List.{join_with_byte}
 use Rattle.mf_locale.specs.Chain.{chain_of, ending_in_und, fronts, truncations, und}
 use Rattle.mf_locale.specs.Tag.{subtags}
-use Rattle.mf_locale.proofs.Truncations.{no_parts, truncations_at, truncations_one, IsLastHyphen}
+use Rattle.mf_locale.proofs.Truncations.{no_parts, truncations_at, IsLastHyphen}
 
 some_fronts : (parts : List (List ℕ)) → (parts ≡ [] → ⊥) → fronts parts ≡ [] → ⊥
 some_fronts [] some none = some refl
