@@ -12,3 +12,5 @@ pub mod Dropped
 pub mod Showing
 pub mod Unique
 pub mod ReadBack
+pub mod RoundingExists
+pub mod ReadingExists

@@ -84,7 +84,7 @@ one_form y z same len =
     same_from_place y.whole y.fraction z.whole z.fraction (10 ^ z.fraction_len) (subst Q len y.within) z.within (subst P len over)
 
 -- equal facts on equal fields
-bool_same : (a b : Bool) → (IsTrue a → IsTrue b) → (IsTrue b → IsTrue a) → a ≡ b
+pub bool_same : (a b : Bool) → (IsTrue a → IsTrue b) → (IsTrue b → IsTrue a) → a ≡ b
 bool_same true true f g = refl
 bool_same true false f g = absurd (false≢true (f refl))
 bool_same false true f g = absurd (false≢true (g refl))
@@ -157,7 +157,7 @@ decimal_fields n c s a b p u n' c' s' e f g =
     let S : ℕ → Type 0 = λ t. (a' : c < 10 ^ 36) (b' : t ≤ 36) (p' : 0 < t → 0 < c % 10) (u' : IsTrue n → 0 < c) → decimal_of n c s a b p u ≡ decimal_of n c t a' b' p' u' in
     subst N e (subst C f (subst S g (λ a' b' p' u'. decimal_facts n c s a a' b b' p p' u u')))
 
-decimal_same : (x y : Decimal) → x.negative ≡ y.negative → x.coefficient ≡ y.coefficient → x.scale ≡ y.scale → x ≡ y
+pub decimal_same : (x y : Decimal) → x.negative ≡ y.negative → x.coefficient ≡ y.coefficient → x.scale ≡ y.scale → x ≡ y
 unfolding decimal_of
 decimal_same x y e f g =
     decimal_fields x.negative x.coefficient x.scale x.short x.near x.plain x.unsigned_zero y.negative y.coefficient y.scale e f g y.short y.near y.plain y.unsigned_zero
