@@ -1,0 +1,9 @@
+pub mod Numbers
+pub mod OptionValues
+pub mod Options
+pub mod Fitting
+pub mod Kept
+pub mod Shown
+pub mod Functions
+pub mod Ranks
+pub mod Laws
