@@ -1,6 +1,6 @@
 -- What reads, rounds and cuts gives the value of the definitions.
 use Rattle.std.proofs.Common.{◌≡◌, ℕ, ◌+◌, ◌*◌, ◌^◌, ◌<◌, ◌≤◌, ◌⊎◌, inl, inr, List, IsTrue, refl, sym, ap, subst, ◌∙◌, ⊎_elim, arith}
-use Rattle.std.specs.Prelude.{Result, Ok, Err}
+use Rattle.std.specs.Prelude.{Result, Ok, Err, IfOk, ◌↔◌}
 use Rattle.std.proofs.lemmas.Bool.{cases_lt}
 use Rattle.std.proofs.Math.Nat.{mul-le-mul_right}
 use Rattle.mf_decimal.specs.declared.decimal.Decimal.{Decimal}
@@ -102,3 +102,9 @@ is_by text x (inr (inr none)) e = absurd (clash x e)
 pub decimal_read : (text : List ℕ) (x : Decimal) → read text ≡ Ok x → DecimalOf text x
 unfolding read
 decimal_read text x e = is_by text x (reading text) e
+
+-- what a reader of number literals answers
+pub read_of : (text : List ℕ) (r : Result Decimal NumberError) → IfOk r (λ x. DecimalOf text x) → ((r ≡ Err NotANumber) ↔ (¬ IsNumber text)) → ((r ≡ Err TooWide) ↔ IsTooWide text) → r ≡ read text
+read_of text (Ok x) value none wide = sym (read_decimal text x value)
+read_of text (Err NotANumber) value none wide = sym (read_none text (none.0 refl))
+read_of text (Err TooWide) value none wide = sym (read_wide text (wide.0 refl))

@@ -11,7 +11,7 @@ use Rattle.mf_tree.specs.declared.fault.Kind.TheVariants.{BadOption}
 use Rattle.mf_tree.specs.declared.name.Identifier.{Identifier}
 use Rattle.mf_tree.specs.declared.name.Name.{Name}
 use Rattle.mf_value.specs.Ranges.{is_way_of_number}
-use Rattle.mf_value.specs.Values.{selects_so}
+use Rattle.mf_value.specs.Values.{nothing_kept, selects_so}
 use Rattle.mf_value.specs.declared.called.CallFault.{CallFault}
 use Rattle.mf_value.specs.declared.called.Called.{Called}
 use Rattle.mf_value.specs.declared.content.Content.{Content}
@@ -23,7 +23,7 @@ use Rattle.mf_value.specs.declared.kept.Kept.{Kept}
 use Rattle.mf_value.specs.declared.number_option.NumberFunction.{NumberFunction}
 use Rattle.mf_value.specs.declared.number_option.NumberFunction.TheVariants.{Number, Integer}
 use Rattle.mf_value.specs.declared.value.Value.{Value}
-use Rattle.mf_meaning.specs.Kept.{nothing_kept, kept_after}
+use Rattle.mf_meaning.specs.Kept.{kept_after}
 use Rattle.mf_meaning.specs.Numbers.{number_of, cut}
 use Rattle.mf_meaning.specs.Options.{is_allowed, selects_by_variable}
 
@@ -46,21 +46,17 @@ abbrev pub called_with : Option Value → List CallFault → Called
 called_with None faults = bad_operand
 called_with (Some value) faults = record { value = Some value; faults = faults }
 
--- a number as an operand: its amount, and what it keeps
-pub record NumberOperand : Type 0 where
-  pub amount : Decimal
-  pub kept : Kept
+-- a number as an operand: its amount, and what it keeps; a text is one where it is a number literal that is not too wide
+abbrev pub text_operand : Option Decimal → Option (Decimal × Kept)
+text_operand None = None
+text_operand (Some amount) = Some (amount, nothing_kept)
 
-abbrev pub text_operand : Option Decimal → Option NumberOperand
-text_operand number = option_map (λ amount. record { amount = amount; kept = nothing_kept }) number
-
--- an operand that is a number, or a text that is a number and not too wide
-abbrev pub content_number : Content → Option NumberOperand
+abbrev pub content_number : Content → Option (Decimal × Kept)
 content_number (content.Text text) = text_operand (number_of text)
-content_number (content.Number amount kept) = Some (record { amount = amount; kept = kept })
+content_number (content.Number amount kept) = Some (amount, kept)
 content_number (content.Fallback source) = None
 
-abbrev pub operand_number : Option Value → Option NumberOperand
+abbrev pub operand_number : Option Value → Option (Decimal × Kept)
 operand_number None = None
 operand_number (Some value) = content_number value.content
 
@@ -103,9 +99,9 @@ number_value locale amount kept by_variable = record {
 }
 
 -- `:number` and `:integer`
-abbrev pub number_after : LocaleRecord → NumberFunction → List Given → List Pair → NumberOperand → Value
+abbrev pub number_after : LocaleRecord → NumberFunction → List Given → List Pair → Decimal × Kept → Value
 number_after locale function written presets operand =
-    number_value locale (amount_of function operand.amount) (kept_after function written presets operand.kept) (selects_by_variable function written)
+    number_value locale (amount_of function operand.0) (kept_after function written presets operand.1) (selects_by_variable function written)
 
 abbrev pub number_called : LocaleRecord → NumberFunction → List Pair → Option Value → List Given → Called
 number_called locale function presets operand written =

@@ -8,14 +8,6 @@ use Rattle.mf_value.specs.declared.number_option.NumberFunction.{NumberFunction}
 use Rattle.mf_meaning.specs.Fitting.{effective_fits, count_within, way_fits}
 use Rattle.mf_meaning.specs.Options.{effective, select, sign_display, use_grouping, minimum_integer_digits, minimum_fraction_digits, maximum_fraction_digits, minimum_significant_digits, maximum_significant_digits}
 
--- what a number keeps that was given no option
-abbrev pub nothing_kept : Kept
-nothing_kept = record {
-  select = None; sign = None; grouping = None; min_whole = None;
-  min_fraction = None; max_fraction = None; min_significant = None; max_significant = None;
-  select_fits = refl; min_whole_fits = refl; min_fraction_fits = refl; max_fraction_fits = refl; min_significant_fits = refl; max_significant_fits = refl;
-}
-
 -- the options of a number after a call, where the operand kept `inherited`; what is kept is as it was written
 abbrev pub kept_after : NumberFunction → List Given → List Pair → Kept → Kept
 kept_after function written presets inherited = record {

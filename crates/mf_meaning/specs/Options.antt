@@ -1,7 +1,7 @@
 -- The options of the functions over numbers, in the order of their table, and the value that one of them has in a call
 -- (Unicode TS 35, Part 9, :number and :integer).
 use Rattle.std.specs.Prelude.{ℕ, Bool, true, false, ◌&&◌, ◌||◌, not, List, [], ◌∷◌, Option, Some, None, option_and_then, encode_utf8_all, if◌then◌else◌}
-use Rattle.std.specs.Option.{is_some}
+use Rattle.std.specs.Option.{is_some, option_or}
 use Rattle.std.specs.List.{list_any}
 use Rattle.mf_text.specs.declared.pair.Pair.{Pair}
 use Rattle.mf_numfmt.specs.declared.options.Grouping.{Grouping}
@@ -75,24 +75,22 @@ written_value function setting given = value_at setting (option_of function give
 abbrev pub preset_value : {V : Type 0} → NumberFunction → Setting V → Pair → Option V
 preset_value function setting preset = value_at setting (option_at function (option_named (encode_utf8_all preset.name))) true (encode_utf8_all preset.value)
 
--- the first, or else the second
-abbrev pub or_else : {V : Type 0} → Option V → Option V → Option V
-or_else None other = other
-or_else (Some value) other = Some value
-
 -- the first value that one of a list gives
 abbrev pub first_of : {A V : Type 0} → (A → Option V) → List A → Option V
 first_of value [] = None
-first_of value (x ∷ xs) = or_else (value x) (first_of value xs)
+first_of value (x ∷ xs) = option_or (value x) (first_of value xs)
 
 -- what the function inherits of a setting: it must have the option itself
+abbrev pub inherited_from : {V : Type 0} → NumberFunction → NumberOption → Option V → Option V
+inherited_from function option kept = if is_of function option then kept else None
+
 abbrev pub inherited : {V : Type 0} → NumberFunction → Setting V → Kept → Option V
-inherited function setting kept = if is_of function setting.option then setting.kept kept else None
+inherited function setting kept = inherited_from function setting.option (setting.kept kept)
 
 -- the value that a setting has in a call: the one that is written, else that of a preset, else the one that the operand keeps
 abbrev pub effective : {V : Type 0} → NumberFunction → Setting V → List Given → List Pair → Kept → Option V
 effective function setting written presets kept =
-    or_else (first_of (written_value function setting) written) (or_else (first_of (preset_value function setting) presets) (inherited function setting kept))
+    option_or (first_of (written_value function setting) written) (option_or (first_of (preset_value function setting) presets) (inherited function setting kept))
 
 -- whether an option that is written gives some setting a value
 abbrev pub allows : {V : Type 0} → NumberFunction → Given → Setting V → Bool

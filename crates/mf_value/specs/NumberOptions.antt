@@ -21,15 +21,17 @@ option_named name =
 
 -- the function has the option: three are those of `:number` alone
 abbrev pub is_of : NumberFunction → NumberOption → Bool
-is_of Number option = true
-is_of Integer Select = true
-is_of Integer SignDisplay = true
-is_of Integer UseGrouping = true
-is_of Integer MinimumIntegerDigits = true
+is_of function Select = true
+is_of function SignDisplay = true
+is_of function UseGrouping = true
+is_of function MinimumIntegerDigits = true
+is_of Number MinimumFractionDigits = true
 is_of Integer MinimumFractionDigits = false
+is_of Number MaximumFractionDigits = true
 is_of Integer MaximumFractionDigits = false
+is_of Number MinimumSignificantDigits = true
 is_of Integer MinimumSignificantDigits = false
-is_of Integer MaximumSignificantDigits = true
+is_of function MaximumSignificantDigits = true
 
 -- two options are one
 abbrev pub is_same_option : NumberOption → NumberOption → Bool

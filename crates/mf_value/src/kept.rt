@@ -33,17 +33,3 @@ pub struct Kept {
     pub ghost min_significant_fits: { is_within 1 21 min_significant ≡ true },
     pub ghost max_significant_fits: { is_within 1 21 max_significant ≡ true },
 }
-
-impl Kept {
-    /// No option was given.
-    pub const NOTHING: Kept = Kept {
-        select: None,
-        sign: None,
-        grouping: None,
-        min_whole: None,
-        min_fraction: None,
-        max_fraction: None,
-        min_significant: None,
-        max_significant: None,
-    };
-}

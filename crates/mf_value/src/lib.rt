@@ -10,6 +10,7 @@ mod functions;
 mod given;
 mod handler;
 mod kept;
+mod no_options;
 mod number_option;
 mod value;
 

@@ -1,0 +1,224 @@
+-- What was read of a list of options is what the definitions look for in it, one after the other.
+use Rattle.std.proofs.Common.{◌≡◌, ℕ, Bool, true, false, not, List, [], ◌∷◌, refl, sym, ap, subst, ◌∙◌}
+use Rattle.std.specs.Prelude.{◌||◌, ◌&&◌, Option, Some, None, encode_utf8_all}
+use Rattle.std.specs.List.{list_any}
+use Rattle.std.specs.Option.{is_some, option_or}
+use Rattle.mf_value.specs.declared.given.Given.{Given}
+use Rattle.mf_value.specs.declared.number_option.NumberFunction.{NumberFunction}
+use Rattle.mf_value.specs.declared.number_option.NumberOption.{NumberOption}
+use Rattle.mf_value.specs.declared.number_option.NumberOption.TheVariants.{Select, SignDisplay, UseGrouping, MinimumIntegerDigits, MinimumFractionDigits, MaximumFractionDigits, MinimumSignificantDigits, MaximumSignificantDigits}
+use Rattle.mf_meaning.specs.Options.{Setting, inherited_from, option_of, value_at, written_value, first_of, is_allowed, is_select, is_select_by_variable, selects_by_variable, select, sign_display, use_grouping, minimum_integer_digits, minimum_fraction_digits, maximum_fraction_digits, minimum_significant_digits, maximum_significant_digits}
+use Rattle.mf_value.proofs.Same.{same_kept}
+use Rattle.mf_value.specs.NumberOptions.{is_of}
+use Rattle.mf_value.specs.Ranges.{is_within, is_way_of_number}
+use Rattle.mf_value.specs.declared.kept.Kept.{Kept}
+use Rattle.mf_meaning.specs.Fitting.{or_fits, if_fits, written_fits, count_within, way_fits}
+use Rattle.mf_meaning.specs.Kept.{kept_after}
+use Rattle.mf_functions.specs.declared.written.Written.{Written}
+use Rattle.mf_functions.specs.Written.{nothing_written, with_option, with_given, written_from, takes_option, takes_given, AreInRange, IsKept}
+
+or_none : {V : Type 0} (o : Option V) → o ≡ option_or o None
+or_none None = refl
+or_none (Some x) = refl
+
+or_assoc : {V : Type 0} (o p q : Option V) → option_or (option_or o p) q ≡ option_or o (option_or p q)
+or_assoc None p q = refl
+or_assoc (Some x) p q = refl
+
+or_false : (b : Bool) → b ≡ (b || false)
+or_false true = refl
+or_false false = refl
+
+either_assoc : (a b c : Bool) → ((a || b) || c) ≡ (a || (b || c))
+either_assoc true b c = refl
+either_assoc false b c = refl
+
+-- a field that takes up the first value that it is given
+first_kept : {V : Type 0} (function : NumberFunction) (field : Written → Option V) (value : Given → Option V) → ((w : Written) (g : Given) → field (with_given function w g) ≡ option_or (field w) (value g)) → (w : Written) (gs : List Given) → field (written_from function w gs) ≡ option_or (field w) (first_of value gs)
+first_kept function field value step w [] = or_none (field w)
+first_kept {V} function field value step w (g ∷ gs) =
+    first_kept function field value step (with_given function w g) gs
+    ∙ ap (λ (o : Option V). option_or o (first_of value gs)) (step w g)
+    ∙ or_assoc (field w) (value g) (first_of value gs)
+
+select_step : (w : Written) (n : Option NumberOption) (literal : Bool) (text : List ℕ) → (with_option w n literal text).select ≡ option_or w.select (value_at select n literal text)
+select_step w None l t = or_none w.select
+select_step w (Some Select) l t = refl
+select_step w (Some SignDisplay) l t = or_none w.select
+select_step w (Some UseGrouping) l t = or_none w.select
+select_step w (Some MinimumIntegerDigits) l t = or_none w.select
+select_step w (Some MinimumFractionDigits) l t = or_none w.select
+select_step w (Some MaximumFractionDigits) l t = or_none w.select
+select_step w (Some MinimumSignificantDigits) l t = or_none w.select
+select_step w (Some MaximumSignificantDigits) l t = or_none w.select
+
+pub select_written : (function : NumberFunction) (gs : List Given) → (written_from function nothing_written gs).select ≡ first_of (written_value function select) gs
+select_written function gs = first_kept function (λ w. w.select) (written_value function select) (λ w g. select_step w (option_of function g.name) g.literal (encode_utf8_all g.value)) nothing_written gs
+
+sign_step : (w : Written) (n : Option NumberOption) (literal : Bool) (text : List ℕ) → (with_option w n literal text).sign ≡ option_or w.sign (value_at sign_display n literal text)
+sign_step w None l t = or_none w.sign
+sign_step w (Some Select) l t = or_none w.sign
+sign_step w (Some SignDisplay) l t = refl
+sign_step w (Some UseGrouping) l t = or_none w.sign
+sign_step w (Some MinimumIntegerDigits) l t = or_none w.sign
+sign_step w (Some MinimumFractionDigits) l t = or_none w.sign
+sign_step w (Some MaximumFractionDigits) l t = or_none w.sign
+sign_step w (Some MinimumSignificantDigits) l t = or_none w.sign
+sign_step w (Some MaximumSignificantDigits) l t = or_none w.sign
+
+pub sign_written : (function : NumberFunction) (gs : List Given) → (written_from function nothing_written gs).sign ≡ first_of (written_value function sign_display) gs
+sign_written function gs = first_kept function (λ w. w.sign) (written_value function sign_display) (λ w g. sign_step w (option_of function g.name) g.literal (encode_utf8_all g.value)) nothing_written gs
+
+grouping_step : (w : Written) (n : Option NumberOption) (literal : Bool) (text : List ℕ) → (with_option w n literal text).grouping ≡ option_or w.grouping (value_at use_grouping n literal text)
+grouping_step w None l t = or_none w.grouping
+grouping_step w (Some Select) l t = or_none w.grouping
+grouping_step w (Some SignDisplay) l t = or_none w.grouping
+grouping_step w (Some UseGrouping) l t = refl
+grouping_step w (Some MinimumIntegerDigits) l t = or_none w.grouping
+grouping_step w (Some MinimumFractionDigits) l t = or_none w.grouping
+grouping_step w (Some MaximumFractionDigits) l t = or_none w.grouping
+grouping_step w (Some MinimumSignificantDigits) l t = or_none w.grouping
+grouping_step w (Some MaximumSignificantDigits) l t = or_none w.grouping
+
+pub grouping_written : (function : NumberFunction) (gs : List Given) → (written_from function nothing_written gs).grouping ≡ first_of (written_value function use_grouping) gs
+grouping_written function gs = first_kept function (λ w. w.grouping) (written_value function use_grouping) (λ w g. grouping_step w (option_of function g.name) g.literal (encode_utf8_all g.value)) nothing_written gs
+
+min_whole_step : (w : Written) (n : Option NumberOption) (literal : Bool) (text : List ℕ) → (with_option w n literal text).min_whole ≡ option_or w.min_whole (value_at minimum_integer_digits n literal text)
+min_whole_step w None l t = or_none w.min_whole
+min_whole_step w (Some Select) l t = or_none w.min_whole
+min_whole_step w (Some SignDisplay) l t = or_none w.min_whole
+min_whole_step w (Some UseGrouping) l t = or_none w.min_whole
+min_whole_step w (Some MinimumIntegerDigits) l t = refl
+min_whole_step w (Some MinimumFractionDigits) l t = or_none w.min_whole
+min_whole_step w (Some MaximumFractionDigits) l t = or_none w.min_whole
+min_whole_step w (Some MinimumSignificantDigits) l t = or_none w.min_whole
+min_whole_step w (Some MaximumSignificantDigits) l t = or_none w.min_whole
+
+pub min_whole_written : (function : NumberFunction) (gs : List Given) → (written_from function nothing_written gs).min_whole ≡ first_of (written_value function minimum_integer_digits) gs
+min_whole_written function gs = first_kept function (λ w. w.min_whole) (written_value function minimum_integer_digits) (λ w g. min_whole_step w (option_of function g.name) g.literal (encode_utf8_all g.value)) nothing_written gs
+
+min_fraction_step : (w : Written) (n : Option NumberOption) (literal : Bool) (text : List ℕ) → (with_option w n literal text).min_fraction ≡ option_or w.min_fraction (value_at minimum_fraction_digits n literal text)
+min_fraction_step w None l t = or_none w.min_fraction
+min_fraction_step w (Some Select) l t = or_none w.min_fraction
+min_fraction_step w (Some SignDisplay) l t = or_none w.min_fraction
+min_fraction_step w (Some UseGrouping) l t = or_none w.min_fraction
+min_fraction_step w (Some MinimumIntegerDigits) l t = or_none w.min_fraction
+min_fraction_step w (Some MinimumFractionDigits) l t = refl
+min_fraction_step w (Some MaximumFractionDigits) l t = or_none w.min_fraction
+min_fraction_step w (Some MinimumSignificantDigits) l t = or_none w.min_fraction
+min_fraction_step w (Some MaximumSignificantDigits) l t = or_none w.min_fraction
+
+pub min_fraction_written : (function : NumberFunction) (gs : List Given) → (written_from function nothing_written gs).min_fraction ≡ first_of (written_value function minimum_fraction_digits) gs
+min_fraction_written function gs = first_kept function (λ w. w.min_fraction) (written_value function minimum_fraction_digits) (λ w g. min_fraction_step w (option_of function g.name) g.literal (encode_utf8_all g.value)) nothing_written gs
+
+max_fraction_step : (w : Written) (n : Option NumberOption) (literal : Bool) (text : List ℕ) → (with_option w n literal text).max_fraction ≡ option_or w.max_fraction (value_at maximum_fraction_digits n literal text)
+max_fraction_step w None l t = or_none w.max_fraction
+max_fraction_step w (Some Select) l t = or_none w.max_fraction
+max_fraction_step w (Some SignDisplay) l t = or_none w.max_fraction
+max_fraction_step w (Some UseGrouping) l t = or_none w.max_fraction
+max_fraction_step w (Some MinimumIntegerDigits) l t = or_none w.max_fraction
+max_fraction_step w (Some MinimumFractionDigits) l t = or_none w.max_fraction
+max_fraction_step w (Some MaximumFractionDigits) l t = refl
+max_fraction_step w (Some MinimumSignificantDigits) l t = or_none w.max_fraction
+max_fraction_step w (Some MaximumSignificantDigits) l t = or_none w.max_fraction
+
+pub max_fraction_written : (function : NumberFunction) (gs : List Given) → (written_from function nothing_written gs).max_fraction ≡ first_of (written_value function maximum_fraction_digits) gs
+max_fraction_written function gs = first_kept function (λ w. w.max_fraction) (written_value function maximum_fraction_digits) (λ w g. max_fraction_step w (option_of function g.name) g.literal (encode_utf8_all g.value)) nothing_written gs
+
+min_significant_step : (w : Written) (n : Option NumberOption) (literal : Bool) (text : List ℕ) → (with_option w n literal text).min_significant ≡ option_or w.min_significant (value_at minimum_significant_digits n literal text)
+min_significant_step w None l t = or_none w.min_significant
+min_significant_step w (Some Select) l t = or_none w.min_significant
+min_significant_step w (Some SignDisplay) l t = or_none w.min_significant
+min_significant_step w (Some UseGrouping) l t = or_none w.min_significant
+min_significant_step w (Some MinimumIntegerDigits) l t = or_none w.min_significant
+min_significant_step w (Some MinimumFractionDigits) l t = or_none w.min_significant
+min_significant_step w (Some MaximumFractionDigits) l t = or_none w.min_significant
+min_significant_step w (Some MinimumSignificantDigits) l t = refl
+min_significant_step w (Some MaximumSignificantDigits) l t = or_none w.min_significant
+
+pub min_significant_written : (function : NumberFunction) (gs : List Given) → (written_from function nothing_written gs).min_significant ≡ first_of (written_value function minimum_significant_digits) gs
+min_significant_written function gs = first_kept function (λ w. w.min_significant) (written_value function minimum_significant_digits) (λ w g. min_significant_step w (option_of function g.name) g.literal (encode_utf8_all g.value)) nothing_written gs
+
+max_significant_step : (w : Written) (n : Option NumberOption) (literal : Bool) (text : List ℕ) → (with_option w n literal text).max_significant ≡ option_or w.max_significant (value_at maximum_significant_digits n literal text)
+max_significant_step w None l t = or_none w.max_significant
+max_significant_step w (Some Select) l t = or_none w.max_significant
+max_significant_step w (Some SignDisplay) l t = or_none w.max_significant
+max_significant_step w (Some UseGrouping) l t = or_none w.max_significant
+max_significant_step w (Some MinimumIntegerDigits) l t = or_none w.max_significant
+max_significant_step w (Some MinimumFractionDigits) l t = or_none w.max_significant
+max_significant_step w (Some MaximumFractionDigits) l t = or_none w.max_significant
+max_significant_step w (Some MinimumSignificantDigits) l t = or_none w.max_significant
+max_significant_step w (Some MaximumSignificantDigits) l t = refl
+
+pub max_significant_written : (function : NumberFunction) (gs : List Given) → (written_from function nothing_written gs).max_significant ≡ first_of (written_value function maximum_significant_digits) gs
+max_significant_written function gs = first_kept function (λ w. w.max_significant) (written_value function maximum_significant_digits) (λ w g. max_significant_step w (option_of function g.name) g.literal (encode_utf8_all g.value)) nothing_written gs
+
+-- whether a variable gives `select`
+variable_step : (w : Written) (n : Option NumberOption) (literal : Bool) (text : List ℕ) → (with_option w n literal text).by_variable ≡ (w.by_variable || (is_select n && not literal))
+variable_step w None l t = or_false w.by_variable
+variable_step w (Some Select) l t = refl
+variable_step w (Some SignDisplay) l t = or_false w.by_variable
+variable_step w (Some UseGrouping) l t = or_false w.by_variable
+variable_step w (Some MinimumIntegerDigits) l t = or_false w.by_variable
+variable_step w (Some MinimumFractionDigits) l t = or_false w.by_variable
+variable_step w (Some MaximumFractionDigits) l t = or_false w.by_variable
+variable_step w (Some MinimumSignificantDigits) l t = or_false w.by_variable
+variable_step w (Some MaximumSignificantDigits) l t = or_false w.by_variable
+
+variable_kept : (function : NumberFunction) (w : Written) (gs : List Given) → (written_from function w gs).by_variable ≡ (w.by_variable || selects_by_variable function gs)
+variable_kept function w [] = or_false w.by_variable
+variable_kept function w (g ∷ gs) =
+    variable_kept function (with_given function w g) gs
+    ∙ ap (λ (b : Bool). b || selects_by_variable function gs) (variable_step w (option_of function g.name) g.literal (encode_utf8_all g.value))
+    ∙ either_assoc w.by_variable (is_select_by_variable function g) (selects_by_variable function gs)
+
+pub by_variable_written : (function : NumberFunction) (gs : List Given) → (written_from function nothing_written gs).by_variable ≡ selects_by_variable function gs
+by_variable_written function gs = variable_kept function nothing_written gs
+
+-- an option is taken exactly where some setting allows it
+allowed_step : (n : Option NumberOption) (literal : Bool) (text : List ℕ) → takes_option n literal text ≡ (is_some (value_at select n literal text) || (is_some (value_at sign_display n literal text) || (is_some (value_at use_grouping n literal text) || (is_some (value_at minimum_integer_digits n literal text) || (is_some (value_at minimum_fraction_digits n literal text) || (is_some (value_at maximum_fraction_digits n literal text) || (is_some (value_at minimum_significant_digits n literal text) || (is_some (value_at maximum_significant_digits n literal text)))))))))
+allowed_step None l t = refl
+allowed_step (Some Select) l t = or_false (is_some (value_at select (Some Select) l t))
+allowed_step (Some SignDisplay) l t = or_false (is_some (value_at sign_display (Some SignDisplay) l t))
+allowed_step (Some UseGrouping) l t = or_false (is_some (value_at use_grouping (Some UseGrouping) l t))
+allowed_step (Some MinimumIntegerDigits) l t = or_false (is_some (value_at minimum_integer_digits (Some MinimumIntegerDigits) l t))
+allowed_step (Some MinimumFractionDigits) l t = or_false (is_some (value_at minimum_fraction_digits (Some MinimumFractionDigits) l t))
+allowed_step (Some MaximumFractionDigits) l t = or_false (is_some (value_at maximum_fraction_digits (Some MaximumFractionDigits) l t))
+allowed_step (Some MinimumSignificantDigits) l t = or_false (is_some (value_at minimum_significant_digits (Some MinimumSignificantDigits) l t))
+allowed_step (Some MaximumSignificantDigits) l t = refl
+
+pub takes_allowed : (function : NumberFunction) (g : Given) → takes_given function g ≡ is_allowed function g
+takes_allowed function g = allowed_step (option_of function g.name) g.literal (encode_utf8_all g.value)
+
+-- what is written is in its range
+range_of : {V : Type 0} (function : NumberFunction) (setting : Setting V) (fits : Option V → Bool) (gs : List Given) (o : Option V) → fits None ≡ true → ((bytes : List ℕ) → fits (setting.value_of bytes) ≡ true) → o ≡ first_of (written_value function setting) gs → fits o ≡ true
+range_of {V} function setting fits gs o none each is = let P : Option V → Type 0 = λ x. fits x ≡ true in subst P (sym is) (written_fits function setting fits gs none each)
+
+pub are_in_range : (function : NumberFunction) (gs : List Given) → AreInRange (written_from function nothing_written gs)
+are_in_range function gs = record {
+  select = range_of function select is_way_of_number gs _ refl way_fits (select_written function gs);
+  min_whole = range_of function minimum_integer_digits (is_within 1 21) gs _ refl (count_within 1 21) (min_whole_written function gs);
+  min_fraction = range_of function minimum_fraction_digits (is_within 0 20) gs _ refl (count_within 0 20) (min_fraction_written function gs);
+  max_fraction = range_of function maximum_fraction_digits (is_within 0 20) gs _ refl (count_within 0 20) (max_fraction_written function gs);
+  min_significant = range_of function minimum_significant_digits (is_within 1 21) gs _ refl (count_within 1 21) (min_significant_written function gs);
+  max_significant = range_of function maximum_significant_digits (is_within 1 21) gs _ refl (count_within 1 21) (max_significant_written function gs);
+}
+
+-- what is kept after a call
+pub kept_is : (function : NumberFunction) (gs : List Given) (k kept : Kept) → IsKept function (written_from function nothing_written gs) k kept → kept ≡ kept_after function gs [] k
+kept_is function gs k kept h =
+    same_kept kept (kept_after function gs [] k)
+    (h.select ∙ ap (λ (o : Option _). option_or o k.select) (select_written function gs))
+    (h.sign ∙ ap (λ (o : Option _). option_or o k.sign) (sign_written function gs))
+    (h.grouping ∙ ap (λ (o : Option _). option_or o k.grouping) (grouping_written function gs))
+    (h.min_whole ∙ ap (λ (o : Option ℕ). option_or o k.min_whole) (min_whole_written function gs))
+    (h.min_fraction ∙ ap (λ (o : Option ℕ). option_or o (inherited_from function MinimumFractionDigits k.min_fraction)) (min_fraction_written function gs))
+    (h.max_fraction ∙ ap (λ (o : Option ℕ). option_or o (inherited_from function MaximumFractionDigits k.max_fraction)) (max_fraction_written function gs))
+    (h.min_significant ∙ ap (λ (o : Option ℕ). option_or o (inherited_from function MinimumSignificantDigits k.min_significant)) (min_significant_written function gs))
+    (h.max_significant ∙ ap (λ (o : Option ℕ). option_or o k.max_significant) (max_significant_written function gs))
+
+pub fits_or : {V : Type 0} (fits : Option V → Bool) (a b r : Option V) → r ≡ option_or a b → fits a ≡ true → fits b ≡ true → fits r ≡ true
+fits_or {V} fits a b r is one other = let P : Option V → Type 0 = λ x. fits x ≡ true in subst P (sym is) (or_fits fits a b one other)
+
+pub fits_inherited : (fits : Option ℕ → Bool) (function : NumberFunction) (option : NumberOption) (kept r : Option ℕ) → r ≡ inherited_from function option kept → fits None ≡ true → fits kept ≡ true → fits r ≡ true
+fits_inherited fits function option kept r is none one = let P : Option ℕ → Type 0 = λ x. fits x ≡ true in subst P (sym is) (if_fits fits (is_of function option) kept none one)

@@ -1,0 +1,14 @@
+//! The functions that every message may call, `:string`, `:number` and `:integer`; what their values show; and how well
+//! a key matches one.
+//!
+//! Source: Unicode TS 35, Part 9, "Default Functions" and "Pattern Selection". Fractions are exact: no floating point is
+//! read or written.
+#![tactic(auto)]
+
+mod number;
+mod option_values;
+mod options;
+mod reading;
+mod written;
+
+pub use number::{integer_fn, number_fn};

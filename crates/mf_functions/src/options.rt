@@ -1,0 +1,20 @@
+//! The option that a name means.
+
+ghost use Rattle.std.specs.Prelude.{◌≡◌};
+ghost use Rattle.mf_meaning.specs.Options as options;
+
+use mf_tree::Identifier;
+use mf_value::{NumberFunction, NumberOption};
+
+/// The option of the function that has this name, which has no namespace.
+pub fn option_of(function: NumberFunction, identifier: &Identifier) -> Option<NumberOption>
+    ensures { result ≡ options.option_of function identifier.now }
+{
+    if identifier.namespace.is_some() {
+        return None;
+    }
+    match NumberOption::named(identifier.name.value.as_str()) {
+        Some(option) if option.is_of(function) => Some(option),
+        _ => None,
+    }
+}

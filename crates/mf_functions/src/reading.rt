@@ -1,0 +1,42 @@
+//! The options of a call, and those of them that are refused.
+
+ghost use Rattle.std.specs.Prelude.{◌≡◌, ◌<◌, ◌^◌, length, IfOk};
+ghost use Rattle.mf_meaning.specs.Functions.{refused_options};
+ghost use Rattle.mf_meaning.specs.Options.{is_allowed};
+ghost use Rattle.mf_functions.specs.Written.{nothing_written, written_from};
+
+use crate::written::Written;
+use mf_text::List;
+use mf_tree::Kind;
+use mf_value::{CallFault, CallFaults, NumberFunction, Options};
+use std::alloc::{AllocError, Global};
+
+/// The values that the options of a call give, and the options that are refused.
+#[derive(Drop)]
+pub struct Reading {
+    pub written: Written,
+    pub refused: CallFaults,
+}
+
+/// Reads each option once.
+pub fn read_options(
+    alloc: Global,
+    function: NumberFunction,
+    options: &Options,
+) -> Result<Reading, AllocError>
+    requires few { length options.now < 2 ^ 32 }
+    ensures written { IfOk result (λ reading. reading.written ≡ written_from function nothing_written options.now) }
+    ensures refused { IfOk result (λ reading. reading.refused ≡ refused_options (is_allowed function) options.now) }
+{
+    let mut written = Written::nothing();
+    let mut refused = List::new(alloc);
+    for (place, given) in options.as_slice().iter().enumerate() {
+        if !written.take(function, given) {
+            refused.push(CallFault {
+                kind: Kind::BadOption,
+                option: place as u32,
+            })?;
+        }
+    }
+    Ok(Reading { written, refused })
+}
