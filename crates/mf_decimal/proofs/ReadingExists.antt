@@ -1,11 +1,10 @@
 -- Each text either has a decimal, or is no number literal, or is one that is too wide.
-use Rattle.std.proofs.Common.{◌≡◌, ℕ, zero, suc, ◌+◌, ◌-◌, ◌*◌, ◌%◌, ◌^◌, ◌<◌, ◌≤◌, Bool, true, false, ◌&&◌, ◌==◌, not, ◌⊎◌, inl, inr, List, [], ◌∷◌, ◌++◌, length, refl, sym, ap, ◌∙◌, ⊎_elim, arith}
+use Rattle.std.proofs.Common.{◌≡◌, ℕ, ◌+◌, ◌-◌, ◌*◌, ◌^◌, ◌<◌, ◌≤◌, Bool, false, ◌&&◌, ◌==◌, not, ◌⊎◌, inl, inr, List, [], ◌∷◌, ◌++◌, length, refl, sym, ap, ◌∙◌, ⊎_elim, arith}
 use Rattle.std.specs.Char.{digit_value}
 use Rattle.std.specs.Str.Parse.{AllDigits}
 use Rattle.std.proofs.lemmas.Bool.{cases_lt}
 use Rattle.mf_decimal.specs.declared.decimal.Decimal.{Decimal}
-use Rattle.mf_decimal.specs.Amount.{IsSame, shifted}
-use Rattle.mf_decimal.specs.Literal.{Literal, Spells, SpellsWhole, SpellsExponent, IsNumber, IsValue, IsWide, DecimalOf, IsTooWide, literal_amount, lowered_by}
+use Rattle.mf_decimal.specs.Literal.{Literal, SpellsWhole, SpellsExponent, IsNumber, IsValue, IsWide, DecimalOf, IsTooWide, literal_amount, lowered_by}
 use Rattle.mf_decimal.specs.Parts.{BeginsNoDigit, IsDigits, is_minus, after_minus, after_exponent_sign, IsBarePoint, LeavesFraction, IsExponent}
 use Rattle.mf_decimal.proofs.Tens.{ten_sum}
 use Rattle.mf_decimal.proofs.RoundingExists.{trimmed, both}
@@ -100,7 +99,7 @@ marked : (c : ℕ) (cs : List ℕ) → (c ≡ 101) ⊎ (c ≡ 69) → IsExponent
 marked c cs mark =
     ⊎_elim
     (λ (is : IsDigits (after_exponent_sign cs)).
-        inl (record { digits = after_exponent_sign cs; minus = is_minus cs; spelled = exponent_spelled (c ∷ cs) c cs (after_exponent_sign cs) (is_minus cs) refl mark refl refl is }))
+    inl (record { digits = after_exponent_sign cs; minus = is_minus cs; spelled = exponent_spelled (c ∷ cs) c cs (after_exponent_sign cs) (is_minus cs) refl mark refl refl is }))
     (λ (other : IsDigits (after_exponent_sign cs) → ⊥). inr (λ x. other (exponent_of (c ∷ cs) c cs x.digits x.minus refl x.spelled).0))
     (digits_or_not (after_exponent_sign cs))
 
@@ -109,8 +108,8 @@ exponent_or_not [] = inl (record { digits = []; minus = false; spelled = (refl, 
 exponent_or_not (c ∷ cs) =
     ⊎_elim (λ (small : c ≡ 101). marked c cs (inl small))
     (λ (no_small : c ≡ 101 → ⊥). ⊎_elim (λ (capital : c ≡ 69). marked c cs (inr capital))
-        (λ (no_capital : c ≡ 69 → ⊥). inr (λ x. ⊎_elim (λ (e : c ≡ 101). no_small e) (λ (e : c ≡ 69). no_capital e) (mark_of c cs x.digits x.minus x.spelled)))
-        (same_or_not c 69))
+    (λ (no_capital : c ≡ 69 → ⊥). inr (λ x. ⊎_elim (λ (e : c ≡ 101). no_small e) (λ (e : c ≡ 69). no_capital e) (mark_of c cs x.digits x.minus x.spelled)))
+    (same_or_not c 69))
     (same_or_not c 101)
 
 -- a text is a number literal or not
@@ -119,14 +118,14 @@ number_or_not text =
     let w = span (after_minus text) in
     ⊎_elim
     (λ (whole : SpellsWhole w.digits). ⊎_elim
-        (λ (f : Fraction w.rest). ⊎_elim
-            (λ (e : IsExponent f.rest).
-                let number : Literal = record { minus = is_minus text; whole = w.digits; fraction = f.digits; exponent_minus = e.minus; exponent = e.digits } in
-                inl (record { number = number; spelled = spelled_by_parts text w.rest f.rest number refl w.parts whole f.leaves e.spelled }))
-            (λ (no_exponent : IsExponent f.rest → ⊥). inr (λ n. no_exponent (no_exponent_left text (after_minus text) w.digits w.rest f.digits f.rest n refl w.parts w.all w.longest f.leaves)))
-            (exponent_or_not f.rest))
-        (λ (bare : IsBarePoint w.rest). inr (λ n. no_fraction text (after_minus text) w.digits w.rest n refl w.parts w.all w.longest bare))
-        (fraction_or_not w.rest))
+    (λ (f : Fraction w.rest). ⊎_elim
+    (λ (e : IsExponent f.rest).
+    let number : Literal = record { minus = is_minus text; whole = w.digits; fraction = f.digits; exponent_minus = e.minus; exponent = e.digits } in
+    inl (record { number = number; spelled = spelled_by_parts text w.rest f.rest number refl w.parts whole f.leaves e.spelled }))
+    (λ (no_exponent : IsExponent f.rest → ⊥). inr (λ n. no_exponent (no_exponent_left text (after_minus text) w.digits w.rest f.digits f.rest n refl w.parts w.all w.longest f.leaves)))
+    (exponent_or_not f.rest))
+    (λ (bare : IsBarePoint w.rest). inr (λ n. no_fraction text (after_minus text) w.digits w.rest n refl w.parts w.all w.longest bare))
+    (fraction_or_not w.rest))
     (λ (other : SpellsWhole w.digits → ⊥). inr (λ n. other (no_whole text (after_minus text) w.digits w.rest n refl w.parts w.all w.longest)))
     (whole_or_not w.digits w.all)
 
@@ -145,13 +144,13 @@ value_or_wide number =
     let sign = both number.minus t.number in
     ⊎_elim
     (λ (short : t.number < 10 ^ 36). ⊎_elim
-        (λ (far : 36 < t.scale). inr (record { coefficient = t.number; scale = t.scale; plain = record { same = same; short = t.is.last }; wide = inr far }))
-        (λ (near : t.scale ≤ 36).
-            inl (record {
-              decimal = record { negative = number.minus && not (t.number == 0); coefficient = t.number; scale = t.scale; short = short; near = near; plain = t.is.last; unsigned_zero = λ below. (sign.0 below).1 };
-              is = record { same = same; sign = sign };
-            }))
-        (cases_lt 36 t.scale))
+    (λ (far : 36 < t.scale). inr (record { coefficient = t.number; scale = t.scale; plain = record { same = same; short = t.is.last }; wide = inr far }))
+    (λ (near : t.scale ≤ 36).
+    inl (record {
+      decimal = record { negative = number.minus && not (t.number == 0); coefficient = t.number; scale = t.scale; short = short; near = near; plain = t.is.last; unsigned_zero = λ below. (sign.0 below).1 };
+      is = record { same = same; sign = sign };
+    }))
+    (cases_lt 36 t.scale))
     (λ (long : 10 ^ 36 ≤ t.number). inr (record { coefficient = t.number; scale = t.scale; plain = record { same = same; short = t.is.last }; wide = inl long }))
     (cases_lt t.number (10 ^ 36))
   where
@@ -167,8 +166,8 @@ pub reading : (text : List ℕ) → Found text ⊎ (IsTooWide text ⊎ (IsNumber
 reading text =
     ⊎_elim
     (λ (n : IsNumber text). ⊎_elim
-        (λ (v : Valued n.number). let f : Found text = record { decimal = v.decimal; is = record { number = n.number; spelled = n.spelled; value = v.is } } in inl f)
-        (λ (wide : IsWide (literal_amount n.number)). inr (inl (record { number = n.number; spelled = n.spelled; wide = wide })))
-        (value_or_wide n.number))
+    (λ (v : Valued n.number). let f : Found text = record { decimal = v.decimal; is = record { number = n.number; spelled = n.spelled; value = v.is } } in inl f)
+    (λ (wide : IsWide (literal_amount n.number)). inr (inl (record { number = n.number; spelled = n.spelled; wide = wide })))
+    (value_or_wide n.number))
     (λ (none : IsNumber text → ⊥). inr (inr none))
     (number_or_not text)

@@ -7,7 +7,7 @@ use Rattle.mf_decimal.specs.declared.decimal.Decimal.{Decimal}
 use Rattle.mf_decimal.specs.declared.shown.Shown.{Shown}
 use Rattle.mf_decimal.specs.declared.shown.Digits.{Digits}
 use Rattle.mf_decimal.specs.declared.shown.Digits.TheVariants.{Fraction, Significant}
-use Rattle.mf_decimal.specs.Amount.{Amount, IsSame, shifted, amount, shown_amount}
+use Rattle.mf_decimal.specs.Amount.{IsSame, shifted, amount, shown_amount}
 use Rattle.mf_decimal.specs.Rounding.{IsInRange, IsNearest, IsLeast, IsShortest, RoundsTo, Rounds}
 use Rattle.mf_decimal.specs.Dropping.{IsDrop, IsDigitCount, IsTrimmed}
 use Rattle.mf_decimal.specs.Whole.{Cuts}
@@ -15,7 +15,7 @@ use Rattle.mf_decimal.proofs.Tens.{ten_pos, ten_more, power_product}
 use Rattle.mf_decimal.proofs.Cutting.{cut_at_most, cut_near, sign_kept, sign_none}
 use Rattle.mf_decimal.proofs.Nearest.{nearest_below, nearest_above, nearest_tie}
 use Rattle.mf_decimal.proofs.Dropped.{fraction_drop, significant_drop, rounded_to, least_some, least_none, digits_short, kept_short, kept_fraction, kept_whole, room_digits, room_fraction}
-use Rattle.mf_decimal.proofs.Showing.{trim_step, room_trimmed, over_shown, within_shown, same_shown, shortest_shown, some_shown, sign_shown, rounds_same, least_same}
+use Rattle.mf_decimal.proofs.Showing.{over_shown, within_shown, same_shown, shortest_shown, some_shown, sign_shown, rounds_same, least_same}
 
 -- how many digits write a number
 record DigitCount (n : ℕ) : Type 0 where
@@ -61,9 +61,9 @@ nearest x unit some =
     ⊎_elim
     (λ (less : x % unit < unit - x % unit). let n : Nearest x unit = record { count = x / unit; is = nearest_below x (x / unit) unit (x % unit) parts less; at_most = omega arith } in n)
     (λ (least : unit - x % unit ≤ x % unit). ⊎_elim
-        (λ (more : unit - x % unit < x % unit). let n : Nearest x unit = record { count = x / unit + 1; is = nearest_above x (x / unit) unit (x % unit) parts rest more; at_most = omega arith } in n)
-        (λ (most : x % unit ≤ unit - x % unit). let n : Nearest x unit = record { count = x / unit + x / unit % 2; is = nearest_tie x (x / unit) unit (x % unit) parts rest (omega arith); at_most = omega arith } in n)
-        (cases_lt (unit - x % unit) (x % unit)))
+    (λ (more : unit - x % unit < x % unit). let n : Nearest x unit = record { count = x / unit + 1; is = nearest_above x (x / unit) unit (x % unit) parts rest more; at_most = omega arith } in n)
+    (λ (most : x % unit ≤ unit - x % unit). let n : Nearest x unit = record { count = x / unit + x / unit % 2; is = nearest_tie x (x / unit) unit (x % unit) parts rest (omega arith); at_most = omega arith } in n)
+    (cases_lt (unit - x % unit) (x % unit)))
     (cases_lt (x % unit) (unit - x % unit))
 
 -- the trailing fraction zeros dropped
@@ -107,9 +107,9 @@ trimmed c (suc s) least =
     ⊎_elim
     (λ (all : s < least). as_it_is c (suc s) least (λ h. absurd (omega arith)))
     (λ (le : least ≤ s). ⊎_elim
-        (λ (none : c % 10 < 1). subst P more (one_zero_less c s least le (omega arith) (trimmed (c / 10) s least)))
-        (λ (some : 1 ≤ c % 10). as_it_is c (suc s) least (λ h. some))
-        (cases_lt (c % 10) 1))
+    (λ (none : c % 10 < 1). subst P more (one_zero_less c s least le (omega arith) (trimmed (c / 10) s least)))
+    (λ (some : 1 ≤ c % 10). as_it_is c (suc s) least (λ h. some))
+    (cases_lt (c % 10) 1))
     (cases_lt s least)
 
 -- how many digits are dropped
@@ -143,24 +143,24 @@ unsigned x digits =
     let near = x.near in
     ⊎_elim
     (λ (past : x.scale < d.count).
-        let short = kept_short x.coefficient d.count x.scale k.count (10 ^ (d.count - x.scale)) x.short d.within (omega arith) k.at_most refl in
-        let u : Unsigned x digits = record {
-          coefficient = k.count * 10 ^ (d.count - x.scale);
-          scale = 0;
-          rounded = rounded_to x digits d.count k.count (k.count * 10 ^ (d.count - x.scale)) 0 d.is k.is (kept_whole k.count d.count x.scale (10 ^ (d.count - x.scale)) (omega arith) refl);
-          short = short;
-          near = omega arith;
-        } in u)
+    let short = kept_short x.coefficient d.count x.scale k.count (10 ^ (d.count - x.scale)) x.short d.within (omega arith) k.at_most refl in
+    let u : Unsigned x digits = record {
+      coefficient = k.count * 10 ^ (d.count - x.scale);
+      scale = 0;
+      rounded = rounded_to x digits d.count k.count (k.count * 10 ^ (d.count - x.scale)) 0 d.is k.is (kept_whole k.count d.count x.scale (10 ^ (d.count - x.scale)) (omega arith) refl);
+      short = short;
+      near = omega arith;
+    } in u)
     (λ (le : d.count ≤ x.scale).
-        let x_short = x.short in
-        let at_most = k.at_most in
-        let u : Unsigned x digits = record {
-          coefficient = k.count;
-          scale = x.scale - d.count;
-          rounded = rounded_to x digits d.count k.count k.count (x.scale - d.count) d.is k.is (kept_fraction k.count d.count x.scale le);
-          short = kept_alone x.coefficient d.count k.count x.short d.within k.at_most;
-          near = omega arith;
-        } in u)
+    let x_short = x.short in
+    let at_most = k.at_most in
+    let u : Unsigned x digits = record {
+      coefficient = k.count;
+      scale = x.scale - d.count;
+      rounded = rounded_to x digits d.count k.count k.count (x.scale - d.count) d.is k.is (kept_fraction k.count d.count x.scale le);
+      short = kept_alone x.coefficient d.count k.count x.short d.within k.at_most;
+      near = omega arith;
+    } in u)
     (cases_lt x.scale d.count)
   where
     kept_alone : (c d kept : ℕ) → c < 10 ^ 36 → d ≤ 36 → kept ≤ c / 10 ^ d + 1 → kept ≤ 10 ^ 36
@@ -182,21 +182,21 @@ least (Fraction min max) c s range near =
 least (Significant min max) c s range near =
     ⊎_elim
     (λ (none : c < 1).
-        let zero_is : c ≡ 0 = omega arith in
-        let l : Least (Significant min max) c s = record {
-          count = min - 1;
-          is = least_none c s min max (min - 1) zero_is refl;
-          near = omega (arith, range.0, range.1, range.2);
-          room = rw zero_is (no_digits s (10 ^ (min - 1 - s)));
-        } in l)
+    let zero_is : c ≡ 0 = omega arith in
+    let l : Least (Significant min max) c s = record {
+      count = min - 1;
+      is = least_none c s min max (min - 1) zero_is refl;
+      near = omega (arith, range.0, range.1, range.2);
+      room = rw zero_is (no_digits s (10 ^ (min - 1 - s)));
+    } in l)
     (λ (some : 1 ≤ c).
-        let m = digit_count c in
-        let l : Least (Significant min max) c s = record {
-          count = min + s - m.count;
-          is = least_some c s m.count min max (min + s - m.count) m.is (λ e. absurd (omega arith)) refl;
-          near = omega (arith, range.0, range.1, range.2, m.is.some);
-          room = room_digits c s m.count min (min + s - m.count) m.is (omega (arith, range.1, range.2)) near refl;
-        } in l)
+    let m = digit_count c in
+    let l : Least (Significant min max) c s = record {
+      count = min + s - m.count;
+      is = least_some c s m.count min max (min + s - m.count) m.is (λ e. absurd (omega arith)) refl;
+      near = omega (arith, range.0, range.1, range.2, m.is.some);
+      room = room_digits c s m.count min (min + s - m.count) m.is (omega (arith, range.1, range.2)) near refl;
+    } in l)
     (cases_lt c 1)
   where
     no_digits : (s p : ℕ) → 0 % 10 ^ s * p < 10 ^ 36

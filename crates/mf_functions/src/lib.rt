@@ -5,10 +5,18 @@
 //! read or written.
 #![tactic(auto)]
 
+mod built_ins;
 mod number;
 mod option_values;
 mod options;
 mod reading;
+mod selecting;
+mod shown;
+mod string;
 mod written;
 
+pub use built_ins::BuiltIns;
 pub use number::{integer_fn, number_fn};
+pub use selecting::{Selecting, select_rank};
+pub use shown::shown_text;
+pub use string::string_fn;

@@ -190,15 +190,8 @@ fn number_value(
         dir: record.dir,
         forced: false,
         id: None,
-        prefix: no_text(alloc),
-        suffix: no_text(alloc),
+        prefix: Text::new(alloc),
+        suffix: Text::new(alloc),
         selects: way_of(by_variable, kept.select),
     }
-}
-
-/// The empty text.
-pub fn no_text(alloc: Global) -> Text
-    ensures { result ≡ [] }
-{
-    Text::from(String::new(alloc))
 }

@@ -1,7 +1,6 @@
 -- What a call of a built-in function gives (Unicode TS 35, Part 9, "Default Functions").
-use Rattle.std.specs.Prelude.{◌≡◌, refl, ℕ, ◌+◌, Bool, true, false, List, [], ◌∷◌, codes, Option, Some, None, option_map, encode_utf8_all, if◌then◌else◌}
+use Rattle.std.specs.Prelude.{◌≡◌, refl, ℕ, ◌+◌, Bool, true, false, List, [], ◌∷◌, Option, Some, None, option_map, encode_utf8_all, if◌then◌else◌}
 use Rattle.std.specs.Option.{unwrap_or, is_some}
-use Rattle.std.specs.Str.{bytes_eq}
 use Rattle.mf_decimal.specs.Text.{exact_text}
 use Rattle.mf_decimal.specs.declared.decimal.Decimal.{Decimal}
 use Rattle.mf_locale.specs.declared.record.LocaleRecord.{LocaleRecord}
@@ -12,6 +11,9 @@ use Rattle.mf_tree.specs.declared.name.Identifier.{Identifier}
 use Rattle.mf_tree.specs.declared.name.Name.{Name}
 use Rattle.mf_value.specs.Ranges.{is_way_of_number}
 use Rattle.mf_value.specs.Values.{nothing_kept, selects_so}
+use Rattle.mf_value.specs.BuiltIns.{function_named}
+use Rattle.mf_value.specs.declared.built_in.BuiltIn.{BuiltIn}
+use Rattle.mf_value.specs.declared.built_in.BuiltIn.TheVariants as function
 use Rattle.mf_value.specs.declared.called.CallFault.{CallFault}
 use Rattle.mf_value.specs.declared.called.Called.{Called}
 use Rattle.mf_value.specs.declared.content.Content.{Content}
@@ -127,19 +129,6 @@ text_value text = record {
 abbrev pub string_called : Option Value → List Given → Called
 string_called operand written = called_with (option_map text_value (operand_text operand)) (refused_options (λ given. false) written)
 
--- the built-in functions
-pub data BuiltIn : Type 0 where
-  string : BuiltIn
-  numeric : NumberFunction → BuiltIn
-
--- the function with this name, given by the bytes of its UTF-8
-abbrev pub function_named : List ℕ → Option BuiltIn
-function_named name =
-    if bytes_eq name (codes "string") then Some string
-    else if bytes_eq name (codes "number") then Some (numeric Number)
-    else if bytes_eq name (codes "integer") then Some (numeric Integer)
-    else None
-
 -- a built-in function's name has no namespace
 abbrev pub function_at : Option Name → Name → Option BuiltIn
 function_at None name = function_named (encode_utf8_all name.value)
@@ -151,5 +140,5 @@ built_in identifier = function_at identifier.namespace identifier.name
 -- what a call of a function gives where some options are preset; what no function has refuses each operand
 abbrev pub base_called : LocaleRecord → Option BuiltIn → List Pair → Option Value → List Given → Called
 base_called locale None presets operand written = bad_operand
-base_called locale (Some string) presets operand written = string_called operand written
-base_called locale (Some (numeric function)) presets operand written = number_called locale function presets operand written
+base_called locale (Some function.String) presets operand written = string_called operand written
+base_called locale (Some (function.Numeric of_numbers)) presets operand written = number_called locale of_numbers presets operand written

@@ -1,5 +1,6 @@
 -- How well a key matches a value (Unicode TS 35, Part 9, "Pattern Selection"), and the meaning of the built-in functions.
-use Rattle.std.specs.Prelude.{ℕ, Bool, true, false, ◌||◌, List, [], codes, Option, Some, None, encode_utf8_all, if◌then◌else◌}
+use Rattle.std.specs.Prelude.{ℕ, Bool, true, false, ◌||◌, List, [], ◌∷◌, Option, Some, None, encode_utf8_all, if◌then◌else◌}
+use Rattle.std.specs.List.{list_any}
 use Rattle.std.specs.Option.{is_some}
 use Rattle.std.specs.Str.{bytes_eq}
 use Rattle.unicode_normalization.specs.Forms.{nfc}
@@ -7,7 +8,7 @@ use Rattle.mf_decimal.specs.Text.{exact_text}
 use Rattle.mf_decimal.specs.declared.decimal.Decimal.{Decimal}
 use Rattle.mf_locale.specs.declared.record.LocaleRecord.{LocaleRecord}
 use Rattle.mf_plural.specs.Choice.{category_by}
-use Rattle.mf_plural.specs.Keywords.{is_same}
+use Rattle.mf_plural.specs.Grammar.{keyword_text}
 use Rattle.mf_plural.specs.declared.rule.Category.{Category}
 use Rattle.mf_plural.specs.declared.rule.Category.TheVariants.{Zero, One, Two, Few, Many, Other}
 use Rattle.mf_value.specs.Meaning.{Meaning}
@@ -23,16 +24,12 @@ use Rattle.mf_meaning.specs.Functions.{built_in, base_called}
 use Rattle.mf_meaning.specs.Numbers.{is_number}
 use Rattle.mf_meaning.specs.Shown.{is_significant, shown_number}
 
--- the category that a keyword names, given by the bytes of its UTF-8
-abbrev pub category_named : List ℕ → Option Category
-category_named text =
-    if bytes_eq text (codes "zero") then Some Zero
-    else if bytes_eq text (codes "one") then Some One
-    else if bytes_eq text (codes "two") then Some Two
-    else if bytes_eq text (codes "few") then Some Few
-    else if bytes_eq text (codes "many") then Some Many
-    else if bytes_eq text (codes "other") then Some Other
-    else None
+-- whether a text, given by the bytes of its UTF-8, is the keyword of a category
+abbrev pub is_keyword_of : Category → List ℕ → Bool
+is_keyword_of category text = bytes_eq text (keyword_text category)
+
+abbrev pub is_keyword : List ℕ → Bool
+is_keyword text = list_any (λ category. is_keyword_of category text) (Zero ∷ One ∷ Two ∷ Few ∷ Many ∷ Other ∷ [])
 
 -- an option is set that asks for digits which the exact text hasn't
 abbrev pub adds_digits : Kept → Bool
@@ -55,22 +52,21 @@ abbrev pub is_key : Option (List ℕ) → List ℕ → Bool
 is_key None key = false
 is_key (Some text) key = bytes_eq (encode_utf8_all key) (encode_utf8_all text)
 
--- the keyword is that of a category that there is
-abbrev pub is_category : Option Category → Category → Bool
-is_category None keyword = false
-is_category (Some category) keyword = is_same category keyword
+-- the text is the keyword of a category that there is
+abbrev pub is_category : Option Category → List ℕ → Bool
+is_category None text = false
+is_category (Some category) text = is_keyword_of category text
 
 -- a key that is no number literal: a keyword matches where it is that of the category, and anything else is no key
-abbrev pub keyword_rank : Option Category → Option Category → Ranked
-keyword_rank category None = ranked.BadKey
-keyword_rank category (Some keyword) = if is_category category keyword then ranked.Keyword else ranked.Never
+abbrev pub keyword_rank : Option Category → List ℕ → Ranked
+keyword_rank category text = if is_category category text then ranked.Keyword else if is_keyword text then ranked.Never else ranked.BadKey
 
 -- a number matches the key that is its exact text, and the keyword of its category
 abbrev pub number_rank : Option (List ℕ) → Option Category → List ℕ → Ranked
 number_rank exact category key =
     if is_key exact key then ranked.Exact
     else if is_number key then ranked.Never
-    else keyword_rank category (category_named (encode_utf8_all key))
+    else keyword_rank category (encode_utf8_all key)
 
 -- a text matches the key with its normal form
 abbrev pub text_rank : List ℕ → List ℕ → Ranked

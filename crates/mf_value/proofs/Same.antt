@@ -1,5 +1,5 @@
 -- Values whose fields are the same are the same: the facts that go with them say nothing more.
-use Rattle.std.proofs.Common.{◌≡◌, ℕ, Bool, true, List, refl, ap, subst, ◌∙◌}
+use Rattle.std.proofs.Common.{◌≡◌, ℕ, Bool, true, List, ap, subst, ◌∙◌}
 use Rattle.std.specs.Prelude.{Option}
 use Rattle.std.proofs.Math.Bool.{Bool-set}
 use Rattle.mf_numfmt.specs.declared.options.Grouping.{Grouping}
@@ -23,9 +23,20 @@ same_tested {A} test a b p q e =
 
 kept_of : Tested (Option Selects) is_way_of_number → Option Sign → Option Grouping → Tested (Option ℕ) (is_within 1 21) → Tested (Option ℕ) (is_within 0 20) → Tested (Option ℕ) (is_within 0 20) → Tested (Option ℕ) (is_within 1 21) → Tested (Option ℕ) (is_within 1 21) → Kept
 kept_of s sign grouping w f g m n = record {
-  select = s.0; sign = sign; grouping = grouping; min_whole = w.0;
-  min_fraction = f.0; max_fraction = g.0; min_significant = m.0; max_significant = n.0;
-  select_fits = s.1; min_whole_fits = w.1; min_fraction_fits = f.1; max_fraction_fits = g.1; min_significant_fits = m.1; max_significant_fits = n.1;
+  select = s.0;
+  sign = sign;
+  grouping = grouping;
+  min_whole = w.0;
+  min_fraction = f.0;
+  max_fraction = g.0;
+  min_significant = m.0;
+  max_significant = n.0;
+  select_fits = s.1;
+  min_whole_fits = w.1;
+  min_fraction_fits = f.1;
+  max_fraction_fits = g.1;
+  min_significant_fits = m.1;
+  max_significant_fits = n.1;
 }
 
 same_parts : (s s' : Tested (Option Selects) is_way_of_number) (sign sign' : Option Sign) (grouping grouping' : Option Grouping) (w w' : Tested (Option ℕ) (is_within 1 21)) (f f' g g' : Tested (Option ℕ) (is_within 0 20)) (m m' n n' : Tested (Option ℕ) (is_within 1 21)) → s ≡ s' → sign ≡ sign' → grouping ≡ grouping' → w ≡ w' → f ≡ f' → g ≡ g' → m ≡ m' → n ≡ n' → kept_of s sign grouping w f g m n ≡ kept_of s' sign' grouping' w' f' g' m' n'
@@ -58,7 +69,14 @@ selects_well c = selects_so c.0 c.1
 
 value_of : Tested (Content × Selects) selects_well → Direction → Bool → Option (List ℕ) → List ℕ → List ℕ → Value
 value_of c dir forced id prefix suffix = record {
-  content = c.0.0; dir = dir; forced = forced; id = id; prefix = prefix; suffix = suffix; selects = c.0.1; selects_fits = c.1;
+  content = c.0.0;
+  dir = dir;
+  forced = forced;
+  id = id;
+  prefix = prefix;
+  suffix = suffix;
+  selects = c.0.1;
+  selects_fits = c.1;
 }
 
 pub same_value : (x y : Value) → x.content ≡ y.content → x.dir ≡ y.dir → x.forced ≡ y.forced → x.id ≡ y.id → x.prefix ≡ y.prefix → x.suffix ≡ y.suffix → x.selects ≡ y.selects → x ≡ y

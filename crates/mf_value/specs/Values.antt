@@ -27,7 +27,18 @@ selects_so (content.Number amount kept) Exact = true
 -- what a number keeps that was given no option
 abbrev pub nothing_kept : Kept
 nothing_kept = record {
-  select = None; sign = None; grouping = None; min_whole = None;
-  min_fraction = None; max_fraction = None; min_significant = None; max_significant = None;
-  select_fits = refl; min_whole_fits = refl; min_fraction_fits = refl; max_fraction_fits = refl; min_significant_fits = refl; max_significant_fits = refl;
+  select = None;
+  sign = None;
+  grouping = None;
+  min_whole = None;
+  min_fraction = None;
+  max_fraction = None;
+  min_significant = None;
+  max_significant = None;
+  select_fits = refl;
+  min_whole_fits = refl;
+  min_fraction_fits = refl;
+  max_fraction_fits = refl;
+  min_significant_fits = refl;
+  max_significant_fits = refl;
 }

@@ -3,7 +3,7 @@ use std::alloc::AllocError;
 use thiserror::Error;
 
 /// What a handler of an edition does.
-#[derive(Debug, Drop)]
+#[derive(Debug, PartialEq, Eq, Drop)]
 pub enum HandlerDef {
     /// A function under another name, with options that it is given beforehand.
     Alias {

@@ -4,6 +4,7 @@
 //! functions is whatever implements [`Functions`]. Source: Unicode TS 35, Part 9, "Formatting" and "Default Functions".
 #![tactic(auto)]
 
+mod built_in;
 mod called;
 mod content;
 mod functions;
@@ -14,6 +15,7 @@ mod no_options;
 mod number_option;
 mod value;
 
+pub use built_in::BuiltIn;
 pub use called::{CallFault, CallFaults, Called, Ranked};
 pub use content::{Content, Selects};
 pub use functions::Functions;

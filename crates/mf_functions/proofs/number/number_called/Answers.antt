@@ -18,5 +18,6 @@ returns c =
     (sym c.operand_number.ensures ∙ c.in-Some.is) c.amount_of.ensures (kept_is function options k kept.result (subst P r.written kept.ensures))
     (ap (λ (w : Written). w.by_variable) r.written ∙ by_variable_written function options) c.number_value-value.ensures r.refused
 
-pub kept_after-requires : goal.kept_after-requires
-kept_after-requires c = let P : Written → Type 0 = λ w. AreInRange w in subst P (sym c.in_ok-written.ensures.written) (are_in_range c.args.function c.args.options.now)
+pub kept_after-kept-requires : goal.kept_after-kept-requires
+kept_after-kept-requires c = let P : Written → Type 0 = λ w. AreInRange w in
+    record { in_range = subst P (sym c.in_ok-written.ensures.written) (are_in_range c.args.function c.args.options.now) }

@@ -1,0 +1,76 @@
+//! The built-in functions as a set of functions.
+
+ghost use Rattle.std.specs.Prelude.{◌≡◌, ◌<◌, ◌^◌, length, IsTrue, IfOk};
+ghost use Rattle.std.specs.Option.{option_copied};
+ghost use Rattle.mf_meaning.specs.Functions as functions;
+ghost use Rattle.mf_meaning.specs.Ranks.{built_ins};
+ghost use Rattle.mf_value.specs.Meaning.{IsNoFallback};
+
+use crate::number::{integer_fn, number_fn};
+use crate::selecting::select_rank;
+use crate::string::{bad_operand, string_fn};
+use mf_locale::LocaleRecord;
+use mf_text::{Direction, Text};
+use mf_tree::Identifier;
+use mf_value::{BuiltIn, Called, Functions, NumberFunction, Options, Ranked, Value};
+use std::alloc::{AllocError, Global};
+
+/// The functions of an edition without handlers, with the numbers of a locale: `:string`, `:number` and `:integer`.
+#[derive(Clone, Copy)]
+pub struct BuiltIns<'a> {
+    pub place: &'a LocaleRecord,
+}
+
+impl<'a> BuiltIns<'a> {
+    /// Those with the numbers of this locale.
+    pub fn new(place: &'a LocaleRecord) -> BuiltIns<'a>
+        ensures { result.place.now ≡ place.entry.now }
+    {
+        BuiltIns { place }
+    }
+}
+
+/// The built-in function with this name, which has no namespace.
+fn built_in(identifier: &Identifier) -> Option<BuiltIn>
+    ensures { result ≡ functions.built_in identifier.now }
+{
+    if identifier.namespace.is_some() {
+        return None;
+    }
+    BuiltIn::named(identifier.name.value.as_str())
+}
+
+impl<'a> Functions for BuiltIns<'a> {
+    ghost meaning = { λ f. built_ins f.place.now };
+
+    fn direction(&self) -> Direction {
+        self.place.dir
+    }
+
+    fn known(&self, name: &Identifier) -> bool {
+        built_in(name).is_some()
+    }
+
+    fn call(
+        &self,
+        alloc: Global,
+        name: &Identifier,
+        operand: Option<&Value>,
+        options: &Options,
+    ) -> Result<Called, AllocError> {
+        match built_in(name) {
+            Some(BuiltIn::String) => string_fn(alloc, operand, options),
+            Some(BuiltIn::Numeric(NumberFunction::Number)) => {
+                number_fn(alloc, self.place, operand, options)
+            }
+            Some(BuiltIn::Numeric(NumberFunction::Integer)) => {
+                integer_fn(alloc, self.place, operand, options)
+            }
+            None => Ok(bad_operand(alloc)),
+        }
+    }
+
+    fn rank(&self, alloc: Global, value: &Value, key: &Text) -> Result<Ranked, AllocError> {
+        select_rank(alloc, self.place, value, key)
+    }
+}
