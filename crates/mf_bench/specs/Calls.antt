@@ -2,7 +2,7 @@
 use Rattle.std.specs.Prelude.{ℕ, List, codes, Option, Some, None, if◌then◌else◌}
 use Rattle.std.specs.Str.{bytes_eq}
 use Rattle.mf_bench.specs.declared.call.Call.{Call}
-use Rattle.mf_bench.specs.declared.call.Call.TheVariants.{Read, Round, Exact, Text, Category, Variants, Declarations}
+use Rattle.mf_bench.specs.declared.call.Call.TheVariants.{Read, Round, Exact, Text, Category, Number, Options, Shown, Rank, Variants, Declarations}
 
 -- the call that a word names
 abbrev pub call_named : List ℕ → Option Call
@@ -12,6 +12,10 @@ call_named word =
     else if bytes_eq word (codes "exact") then Some Exact
     else if bytes_eq word (codes "text") then Some Text
     else if bytes_eq word (codes "category") then Some Category
+    else if bytes_eq word (codes "number") then Some Number
+    else if bytes_eq word (codes "options") then Some Options
+    else if bytes_eq word (codes "shown") then Some Shown
+    else if bytes_eq word (codes "rank") then Some Rank
     else if bytes_eq word (codes "variants") then Some Variants
     else if bytes_eq word (codes "declarations") then Some Declarations
     else None

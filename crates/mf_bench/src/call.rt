@@ -16,6 +16,14 @@ pub enum Call {
     Text,
     /// A number's category is found by plural rules.
     Category,
+    /// `:number` is called without options.
+    Number,
+    /// `:number` is called with four options.
+    Options,
+    /// What a number shows is written.
+    Shown,
+    /// A key is ranked for a number.
+    Rank,
     /// A matcher of that many variants is checked.
     Variants,
     /// That many declarations of a hundred options are checked.
@@ -37,6 +45,14 @@ impl Call {
             Some(Call::Text)
         } else if word == "category" {
             Some(Call::Category)
+        } else if word == "number" {
+            Some(Call::Number)
+        } else if word == "options" {
+            Some(Call::Options)
+        } else if word == "shown" {
+            Some(Call::Shown)
+        } else if word == "rank" {
+            Some(Call::Rank)
         } else if word == "variants" {
             Some(Call::Variants)
         } else if word == "declarations" {

@@ -1,12 +1,14 @@
-//! The program `mf_bench`: does one call of the decimals, of number texts, of the plural rules or of the checks of a
-//! message many times, so that `bench/run` can time it.
+//! The program `mf_bench`: does one call of the decimals, of number texts, of the plural rules, of the built-in functions or of
+//! the checks of a message many times, so that `bench/run` can time it.
 //!
 //! Its words are `read TEXT COUNT`, `round TEXT COUNT`, `exact TEXT COUNT`, `text TEXT COUNT`,
-//! `category TEXT COUNT RULES`, `variants SIZE COUNT` and `declarations SIZE COUNT`. It prints one line, a sum over the results, so that no call can be left out. After any
+//! `category TEXT COUNT RULES`, `number TEXT COUNT`, `options TEXT COUNT` (the same with four options), `shown TEXT COUNT`,
+//! `rank TEXT COUNT KEY`, `variants SIZE COUNT` and `declarations SIZE COUNT`. It prints one line, a sum over the results, so that no call can be left out. After any
 //! other words it ends with status 1.
 #![tactic(auto)]
 
 mod call;
+mod functions;
 mod layouts;
 mod repeat;
 mod sources;
@@ -14,11 +16,12 @@ mod sources;
 use call::Call;
 use mf_decimal::{Decimal, read};
 use mf_plural::{RuleError, Rules, read_rules};
+use mf_value::Options;
 use std::alloc::AllocError;
 use std::process::ExitCode;
 use std::{env, io};
 
-/// The call, the number's text, the count and the rules that the command line asks for.
+/// The call, the number's text, the count and the rules or the key that the command line asks for.
 #[derive(Drop)]
 struct Task {
     call: Call,
@@ -75,6 +78,14 @@ fn category_sum(rt: &HostRuntime, task: &Task, number: Decimal) -> Result<Option
     Ok(Some(repeat::category_sum(&rules, number, task.count)))
 }
 
+/// The key of a task, or the empty one where it has none.
+fn key_of(task: &Task) -> &str {
+    match &task.rules {
+        Some(key) => key.as_str(),
+        None => "",
+    }
+}
+
 /// The sum over the results, or none where there is no task or its text is no number.
 fn sum(rt: &HostRuntime) -> io::Result<Option<u64>> {
     let Some(task) = read_task(rt)? else {
@@ -89,6 +100,27 @@ fn sum(rt: &HostRuntime) -> io::Result<Option<u64>> {
         Call::Exact => repeat::exact_sum(rt.alloc(), number, task.count)?,
         Call::Text => layouts::text_sum(rt.alloc(), number, task.count)?,
         Call::Category => return Ok(category_sum(rt, &task, number)?),
+        Call::Number => {
+            functions::number_sum(
+                rt.alloc(),
+                task.text.as_str(),
+                &Options::new(rt.alloc()),
+                task.count,
+            )?
+        }
+        Call::Options => functions::number_sum(
+            rt.alloc(),
+            task.text.as_str(),
+            &functions::four_options(rt.alloc())?,
+            task.count,
+        )?,
+        Call::Shown => functions::shown_sum(rt.alloc(), task.text.as_str(), task.count)?,
+        Call::Rank => functions::rank_sum(
+            rt.alloc(),
+            task.text.as_str(),
+            key_of(&task),
+            task.count,
+        )?,
         Call::Variants => sources::variants_sum(rt.alloc(), size_of(&task), task.count)?,
         Call::Declarations => sources::declarations_sum(rt.alloc(), size_of(&task), task.count)?,
     };
@@ -101,7 +133,7 @@ fn main(rt: HostRuntime) -> io::Result<ExitCode> {
         Ok(ExitCode::SUCCESS)
     } else {
         eprintln!(rt;
-            "usage: mf_bench read|round|exact|text TEXT COUNT, mf_bench category TEXT COUNT RULES, or mf_bench variants|declarations SIZE COUNT"
+            "usage: mf_bench read|round|exact|text|number|options|shown TEXT COUNT, mf_bench category TEXT COUNT RULES, mf_bench rank TEXT COUNT KEY, or mf_bench variants|declarations SIZE COUNT"
         )?;
         Ok(ExitCode::FAILURE)
     }
