@@ -1,7 +1,6 @@
 -- What was read of a list of options is what the definitions look for in it, one after the other.
 use Rattle.std.proofs.Common.{◌≡◌, ℕ, Bool, true, false, not, List, [], ◌∷◌, refl, sym, ap, subst, ◌∙◌}
 use Rattle.std.specs.Prelude.{◌||◌, ◌&&◌, Option, Some, None, encode_utf8_all}
-use Rattle.std.specs.List.{list_any}
 use Rattle.std.specs.Option.{is_some, option_or}
 use Rattle.mf_value.specs.declared.given.Given.{Given}
 use Rattle.mf_value.specs.declared.number_option.NumberFunction.{NumberFunction}

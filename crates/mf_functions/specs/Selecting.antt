@@ -1,5 +1,5 @@
 -- What keys are compared with: for private clauses.
-use Rattle.std.specs.Prelude.{◌≡◌, ℕ, List, Option, Some, None, encode_utf8_all, if◌then◌else◌}
+use Rattle.std.specs.Prelude.{◌≡◌, ℕ, List, encode_utf8_all, if◌then◌else◌}
 use Rattle.std.specs.Str.{bytes_eq}
 use Rattle.unicode_normalization.specs.Forms.{nfc}
 use Rattle.mf_locale.specs.declared.record.LocaleRecord.{LocaleRecord}

@@ -4,16 +4,15 @@ use Rattle.std.specs.Option.{option_or}
 use Rattle.std.specs.Str.{bytes_eq}
 use Rattle.std.specs.Prelude.{codes}
 use Rattle.mf_text.specs.declared.pair.Pair.{Pair}
-use Rattle.mf_value.specs.NumberOptions.{option_named, is_of, is_same_option}
+use Rattle.mf_value.specs.NumberOptions.{option_named, is_of}
 use Rattle.mf_value.specs.Ranges.{is_within, is_way_of_number}
-use Rattle.mf_value.specs.declared.content.Selects.{Selects}
 use Rattle.mf_value.specs.declared.content.Selects.TheVariants.{Plural, Ordinal, Exact}
 use Rattle.mf_value.specs.declared.given.Given.{Given}
 use Rattle.mf_value.specs.declared.kept.Kept.{Kept}
 use Rattle.mf_value.specs.declared.number_option.NumberFunction.{NumberFunction}
 use Rattle.mf_value.specs.declared.number_option.NumberOption.{NumberOption}
 use Rattle.mf_meaning.specs.OptionValues.{way_named, digits_number, in_range, count_named}
-use Rattle.mf_meaning.specs.Options.{Setting, value_at, written_value, preset_value, first_of, inherited, effective, option_of, option_at}
+use Rattle.mf_meaning.specs.Options.{Setting, value_at, written_value, preset_value, first_of, effective, option_of, option_at}
 
 -- each value that a text gives or a number keeps is in the range
 pub record Fits {V : Type 0} (setting : Setting V) (fits : Option V → Bool) (operand : Kept) : Type 0 where
@@ -46,8 +45,8 @@ effective_fits function setting fits written presets kept h =
     or_fits fits (first_of (written_value function setting) written) _
     (written_fits function setting fits written h.none h.text)
     (or_fits fits (first_of (preset_value function setting) presets) _
-        (first_fits fits (preset_value function setting) presets h.none (λ preset. at_fits setting fits (option_at function (option_named (encode_utf8_all preset.name))) true (encode_utf8_all preset.value) h.none h.text))
-        (if_fits fits (is_of function setting.option) (setting.kept kept) h.none h.kept))
+    (first_fits fits (preset_value function setting) presets h.none (λ preset. at_fits setting fits (option_at function (option_named (encode_utf8_all preset.name))) true (encode_utf8_all preset.value) h.none h.text))
+    (if_fits fits (is_of function setting.option) (setting.kept kept) h.none h.kept))
 
 -- a count of digits
 range_by : (least most count : ℕ) (test : Bool) → (nat_le least count && nat_le count most) ≡ test → is_within least most (if test then Some count else None) ≡ true

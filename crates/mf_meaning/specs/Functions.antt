@@ -1,6 +1,5 @@
 -- What a call of a built-in function gives (Unicode TS 35, Part 9, "Default Functions").
 use Rattle.std.specs.Prelude.{◌≡◌, refl, ℕ, ◌+◌, Bool, true, false, List, [], ◌∷◌, Option, Some, None, option_map, encode_utf8_all, if◌then◌else◌}
-use Rattle.std.specs.Option.{unwrap_or, is_some}
 use Rattle.mf_decimal.specs.Text.{exact_text}
 use Rattle.mf_decimal.specs.declared.decimal.Decimal.{Decimal}
 use Rattle.mf_locale.specs.declared.record.LocaleRecord.{LocaleRecord}
@@ -122,7 +121,14 @@ operand_text (Some value) = content_text value.content
 -- a text that selects as one: its direction is unknown
 abbrev pub text_value : List ℕ → Value
 text_value text = record {
-  content = content.Text text; dir = Unknown; forced = false; id = None; prefix = []; suffix = []; selects = Text; selects_fits = refl;
+  content = content.Text text;
+  dir = Unknown;
+  forced = false;
+  id = None;
+  prefix = [];
+  suffix = [];
+  selects = Text;
+  selects_fits = refl;
 }
 
 -- `:string`, which has no options

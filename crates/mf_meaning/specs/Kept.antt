@@ -1,5 +1,5 @@
 -- What a number keeps after a call of a function over numbers: the value of each option, in the order of their table.
-use Rattle.std.specs.Prelude.{refl, ℕ, List, Option, None}
+use Rattle.std.specs.Prelude.{refl, List}
 use Rattle.mf_text.specs.declared.pair.Pair.{Pair}
 use Rattle.mf_value.specs.Ranges.{is_within, is_way_of_number}
 use Rattle.mf_value.specs.declared.given.Given.{Given}

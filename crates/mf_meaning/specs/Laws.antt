@@ -1,9 +1,8 @@
 -- Laws of the definitions.
-use Rattle.std.specs.Prelude.{◌≡◌, ℕ, List, Ok, Err, ◌↔◌}
+use Rattle.std.specs.Prelude.{◌≡◌, ℕ, List, Ok, ◌↔◌}
 use Rattle.mf_decimal.specs.declared.decimal.Decimal.{Decimal}
-use Rattle.mf_decimal.specs.declared.reading.NumberError.TheVariants.{NotANumber, TooWide}
 use Rattle.mf_decimal.specs.declared.shown.Digits.{Digits}
-use Rattle.mf_decimal.specs.Literal.{DecimalOf, IsNumber, IsTooWide}
+use Rattle.mf_decimal.specs.Literal.{DecimalOf}
 use Rattle.mf_decimal.specs.Rounding.{IsInRange, Rounds}
 use Rattle.mf_decimal.specs.Whole.{Cuts}
 use Rattle.mf_meaning.specs.Numbers.{read, round, cut}

@@ -1,6 +1,6 @@
 -- The options of the functions over numbers, in the order of their table, and the value that one of them has in a call
 -- (Unicode TS 35, Part 9, :number and :integer).
-use Rattle.std.specs.Prelude.{ℕ, Bool, true, false, ◌&&◌, ◌||◌, not, List, [], ◌∷◌, Option, Some, None, option_and_then, encode_utf8_all, if◌then◌else◌}
+use Rattle.std.specs.Prelude.{ℕ, Bool, true, false, ◌&&◌, ◌||◌, not, List, [], ◌∷◌, Option, Some, None, encode_utf8_all, if◌then◌else◌}
 use Rattle.std.specs.Option.{is_some, option_or}
 use Rattle.std.specs.List.{list_any}
 use Rattle.mf_text.specs.declared.pair.Pair.{Pair}

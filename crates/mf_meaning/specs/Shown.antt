@@ -1,7 +1,6 @@
 -- What a value shows (Unicode TS 35, Part 9, :number and :integer).
-use Rattle.std.specs.Prelude.{ℕ, Bool, ◌||◌, max, List, ◌++◌, Option, if◌then◌else◌}
+use Rattle.std.specs.Prelude.{ℕ, Bool, ◌||◌, max, List, ◌++◌, if◌then◌else◌}
 use Rattle.std.specs.Option.{is_some, unwrap_or}
-use Rattle.mf_decimal.specs.Text.{exact_text}
 use Rattle.mf_decimal.specs.declared.decimal.Decimal.{Decimal}
 use Rattle.mf_decimal.specs.declared.shown.Digits.{Digits}
 use Rattle.mf_decimal.specs.declared.shown.Digits.TheVariants.{Fraction, Significant}

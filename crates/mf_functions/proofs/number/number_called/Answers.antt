@@ -1,5 +1,4 @@
-use Rattle.std.proofs.Common.{◌≡◌, sym, ap, subst, ◌∙◌}
-use Rattle.mf_value.specs.declared.kept.Kept.{Kept}
+use Rattle.std.proofs.Common.{sym, ap, subst, ◌∙◌}
 use Rattle.mf_functions.specs.declared.written.Written.{Written}
 use Rattle.mf_functions.specs.Written.{IsKept, AreInRange}
 use Rattle.mf_functions.proofs.Calls.{number_given}
