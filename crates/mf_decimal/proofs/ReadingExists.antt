@@ -4,7 +4,7 @@ use Rattle.std.specs.Char.{digit_value}
 use Rattle.std.specs.Str.Parse.{AllDigits}
 use Rattle.std.proofs.lemmas.Bool.{cases_lt}
 use Rattle.mf_decimal.specs.declared.decimal.Decimal.{Decimal}
-use Rattle.mf_decimal.specs.Literal.{Literal, SpellsWhole, SpellsExponent, IsNumber, IsValue, IsWide, DecimalOf, IsTooWide, literal_amount, lowered_by}
+use Rattle.mf_decimal.specs.Grammar.{Literal, SpellsWhole, SpellsExponent, IsNumber, IsValue, IsWide, DecimalOf, IsTooWide, literal_amount, lowered_by}
 use Rattle.mf_decimal.specs.Parts.{BeginsNoDigit, IsDigits, is_minus, after_minus, after_exponent_sign, IsBarePoint, LeavesFraction, IsExponent}
 use Rattle.mf_decimal.proofs.Tens.{ten_sum}
 use Rattle.mf_decimal.proofs.RoundingExists.{trimmed, both}

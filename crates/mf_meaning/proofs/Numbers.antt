@@ -8,7 +8,7 @@ use Rattle.mf_decimal.specs.declared.reading.NumberError.{NumberError}
 use Rattle.mf_decimal.specs.declared.reading.NumberError.TheVariants.{NotANumber, TooWide}
 use Rattle.mf_decimal.specs.declared.shown.Digits.{Digits}
 use Rattle.mf_decimal.specs.declared.shown.Shown.{Shown}
-use Rattle.mf_decimal.specs.Literal.{DecimalOf, IsNumber, IsTooWide}
+use Rattle.mf_decimal.specs.Grammar.{DecimalOf, IsNumber, IsTooWide}
 use Rattle.mf_decimal.specs.Rounding.{IsInRange, Rounds}
 use Rattle.mf_decimal.specs.Whole.{Cuts}
 use Rattle.mf_decimal.proofs.ReadingExists.{Found, reading}

@@ -2,7 +2,7 @@
 use Rattle.std.specs.Prelude.{◌≡◌, ℕ, List, Ok, ◌↔◌}
 use Rattle.mf_decimal.specs.declared.decimal.Decimal.{Decimal}
 use Rattle.mf_decimal.specs.declared.shown.Digits.{Digits}
-use Rattle.mf_decimal.specs.Literal.{DecimalOf}
+use Rattle.mf_decimal.specs.Grammar.{DecimalOf}
 use Rattle.mf_decimal.specs.Rounding.{IsInRange, Rounds}
 use Rattle.mf_decimal.specs.Whole.{Cuts}
 use Rattle.mf_meaning.specs.Numbers.{read, round, cut}

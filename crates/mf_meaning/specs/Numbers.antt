@@ -3,7 +3,7 @@
 use Rattle.std.specs.Prelude.{ℕ, List, Bool, true, false, Option, Result, Ok, Err, ◌⊎◌}
 use Rattle.std.specs.Result.{result_ok}
 use Rattle.std.proofs.Common.{inl, inr}
-use Rattle.mf_decimal.specs.Literal.{IsNumber, IsTooWide}
+use Rattle.mf_decimal.specs.Grammar.{IsNumber, IsTooWide}
 use Rattle.mf_decimal.specs.Rounding.{IsInRange}
 use Rattle.mf_decimal.specs.declared.decimal.Decimal.{Decimal}
 use Rattle.mf_decimal.specs.declared.reading.NumberError.{NumberError}
