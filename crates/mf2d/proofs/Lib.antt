@@ -1,4 +1,5 @@
 pub mod Answering
+pub mod Flatness
 pub mod OneOutput
 pub mod Publishing
 pub mod Serving

@@ -6,8 +6,8 @@ ghost use Rattle.mf2d.specs.Replies.{answer_reply, IsFormatReply};
 
 use mf_edition::{Edition, Found};
 use mf_locale::{Tag, chain};
+use mf_parse::{ParseError, parse};
 use mf_parts::{Part, Parts, isolate, joined_len};
-use mf_plan::Plan;
 use mf_text::{Argued, Arguments, Direction, Text};
 use mf_tree::{Body, Expression, Message, Name, Operand, Pattern, Piece};
 use mf_wire::Reply;
@@ -80,7 +80,8 @@ fn formatted(edition: u64, tag: Tag, parts: Parts) -> Reply
     }
 }
 
-/// The parts of a source, if it compiles to a flat message and each of its variables has an argument.
+/// The parts of a source, if it compiles to a flat message and each of its variables has an argument. A
+/// flat message has no errors, so that they aren't looked for.
 fn source_parts(
     alloc: Global,
     source: &str,
@@ -88,9 +89,10 @@ fn source_parts(
 ) -> Result<Option<Parts>, AllocError>
     ensures { IfOk result (λ parts. HasFlatParts (chars source.now) arguments.now parts) }
 {
-    match Plan::of(alloc, source)? {
-        Plan::Valid(message) => message_parts(alloc, message, arguments),
-        Plan::Invalid(_) => Ok(None),
+    match parse(alloc, source) {
+        Ok(message) => message_parts(alloc, message, arguments),
+        Err(ParseError::Syntax) => Ok(None),
+        Err(ParseError::OutOfMemory) => Err(AllocError),
     }
 }
 
