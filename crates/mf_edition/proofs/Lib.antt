@@ -9,3 +9,4 @@ pub mod InPlace
 pub mod RecordChain
 pub mod RecordSearch
 pub mod Sized
+pub mod Same

@@ -1,7 +1,10 @@
 -- The messages of a publication, which the log and its editions share.
-use Rattle.std.specs.Prelude.{◌≡◌, ℕ, List, map}
+use Rattle.std.specs.Prelude.{◌≡◌, ◌==◌, ℕ, Bool, List, map}
 use Rattle.std.specs.Arc.{arc_value}
+use Rattle.std.specs.Cmp.{and_equiv, on_equiv, IsEquivalence}
+use Rattle.std.specs.Cmp.Lexicographic.{lists_equiv, nat_list_eq_equiv, pointwise}
 use Rattle.std.specs.List.Sorted.{IsStrictlySortedBy}
+use Rattle.std.specs.Ordering.{eq_of_both, on}
 use Rattle.std.specs.declared.alloc.Global.{Global}
 use Rattle.std.specs.declared.cmp.Ordering.{Ordering}
 use Rattle.std.specs.declared.sync.Arc.{Arc}
@@ -18,6 +21,20 @@ pub record Catalogue : Type 0 where
 -- what callers see of a tag and of items
 abbrev pub catalogue_of : List ℕ → List Item → Catalogue
 catalogue_of tag items = record { tag = tag; messages = map message_of items }
+
+-- two messages have the same id and source
+abbrev pub message_eq : Pair → Pair → Bool
+message_eq = eq_of_both (on (λ message. message.name) (pointwise ◌==◌)) (on (λ message. message.value) (pointwise ◌==◌))
+
+-- two publications have the same tag and the same messages
+abbrev pub catalogue_eq : Catalogue → Catalogue → Bool
+catalogue_eq = eq_of_both (on (λ catalogue. catalogue.tag) (pointwise ◌==◌)) (on (λ catalogue. catalogue.messages) (pointwise message_eq))
+
+pub catalogue_eq_equiv : IsEquivalence catalogue_eq
+catalogue_eq_equiv =
+    let message_eq_equiv = and_equiv (on_equiv (λ (message : Pair). message.name) nat_list_eq_equiv) (on_equiv (λ (message : Pair). message.value) nat_list_eq_equiv) in
+    and_equiv (on_equiv (λ (catalogue : Catalogue). catalogue.tag) nat_list_eq_equiv)
+    (on_equiv (λ (catalogue : Catalogue). catalogue.messages) (lists_equiv message_eq_equiv))
 
 -- the items are in the byte order of their ids, each id once
 abbrev pub AreAscending : List Item → Type 0

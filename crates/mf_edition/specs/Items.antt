@@ -1,7 +1,9 @@
 -- A message with its tag and its id, which stand with its source in one text.
-use Rattle.std.specs.Prelude.{◌≤◌, ℕ, List, chars, drop, map, take}
+use Rattle.std.specs.Prelude.{◌≤◌, ◌==◌, ℕ, Bool, List, chars, drop, map, take}
 use Rattle.std.specs.Arc.{arc_value}
+use Rattle.std.specs.Cmp.Lexicographic.{pointwise}
 use Rattle.std.specs.List.{slice_range}
+use Rattle.std.specs.Ordering.{eq_of_both, on}
 use Rattle.std.specs.Str.{IsCharBoundary}
 use Rattle.std.specs.declared.alloc.Global.{Global}
 use Rattle.std.specs.declared.sync.Arc.{Arc}
@@ -38,3 +40,9 @@ item_of tag message = record { tag = tag; id = message.name; source = message.va
 -- the messages that shared ones are
 abbrev pub item_values : List (Arc Item Global) → List Item
 item_values items = map arc_value items
+
+-- two messages have the same tag, id and source
+abbrev pub item_eq : Item → Item → Bool
+item_eq =
+    eq_of_both (on (λ item. item.tag) (pointwise ◌==◌))
+    (eq_of_both (on (λ item. item.id) (pointwise ◌==◌)) (on (λ item. item.source) (pointwise ◌==◌)))

@@ -74,6 +74,26 @@ impl Catalogue {
     }
 }
 
+/// Two are equal where their tags and their messages are.
+impl PartialEq for Catalogue {
+    ghost use Rattle.std.specs.Cmp.{partial_equiv_from_equiv};
+    ghost use Rattle.mf_edition.specs.Catalogues.{catalogue_eq, catalogue_eq_equiv};
+
+    ghost eq = { catalogue_eq };
+
+    ghost laws = { partial_equiv_from_equiv catalogue_eq_equiv };
+
+    fn eq(&self, other: &Catalogue) -> bool {
+        self.tag == other.tag && self.items == other.items
+    }
+}
+
+impl Eq for Catalogue {
+    ghost use Rattle.mf_edition.specs.Catalogues.{catalogue_eq_equiv};
+
+    ghost laws = { catalogue_eq_equiv };
+}
+
 /// Puts an item in: it takes the place of that of its id, or goes before that of the next higher id. After an error all is
 /// as it was.
 fn insert_item(items: &mut Vec<Arc<Item>>, item: Arc<Item>) -> Result<(), AllocError>

@@ -8,7 +8,7 @@ use mf_locale::{SharedRecord, Tag};
 const OVERHEAD: u64 = 64;
 
 /// What a publication changes.
-#[derive(Debug, Drop)]
+#[derive(Debug, PartialEq, Eq, Drop)]
 pub enum Change {
     /// The messages of one tag.
     Catalogue(Catalogue),
@@ -54,7 +54,7 @@ fn catalogue_size(catalogue: &Catalogue) -> u64
 }
 
 /// A change that was accepted.
-#[derive(Debug, Drop)]
+#[derive(Debug, PartialEq, Eq, Drop)]
 pub struct Entry {
     /// The number of the caller that made it.
     pub caller: u64,

@@ -71,6 +71,28 @@ impl Item {
     }
 }
 
+/// Two are equal where their tags, their ids and their sources are.
+impl PartialEq for Item {
+    ghost use Rattle.std.proofs.Common.{rules};
+    ghost use Rattle.std.specs.Cmp.Rules.{comparing};
+    ghost use Rattle.mf_edition.specs.Items.{item_eq};
+
+    ghost eq = { item_eq };
+
+    ghost laws = { Prim.search (comparing, rules) };
+
+    fn eq(&self, other: &Item) -> bool {
+        self.tag() == other.tag() && self.id() == other.id() && self.source() == other.source()
+    }
+}
+
+impl Eq for Item {
+    ghost use Rattle.std.proofs.Common.{rules};
+    ghost use Rattle.std.specs.Cmp.Rules.{comparing};
+
+    ghost laws = { Prim.search (comparing, rules) };
+}
+
 /// A message that was found: the tag that has it, and its index in the edition.
 #[derive(Debug, Drop)]
 pub struct Found {
