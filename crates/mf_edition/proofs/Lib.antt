@@ -10,3 +10,5 @@ pub mod RecordChain
 pub mod RecordSearch
 pub mod Sized
 pub mod Same
+pub mod SameRecords
+pub mod Exact

@@ -30,9 +30,13 @@ message_eq = eq_of_both (on (λ message. message.name) (pointwise ◌==◌)) (on
 abbrev pub catalogue_eq : Catalogue → Catalogue → Bool
 catalogue_eq = eq_of_both (on (λ catalogue. catalogue.tag) (pointwise ◌==◌)) (on (λ catalogue. catalogue.messages) (pointwise message_eq))
 
+pub message_eq_equiv : IsEquivalence message_eq
+message_eq_equiv =
+    and_equiv (on_equiv (λ (message : Pair). message.name) nat_list_eq_equiv)
+    (on_equiv (λ (message : Pair). message.value) nat_list_eq_equiv)
+
 pub catalogue_eq_equiv : IsEquivalence catalogue_eq
 catalogue_eq_equiv =
-    let message_eq_equiv = and_equiv (on_equiv (λ (message : Pair). message.name) nat_list_eq_equiv) (on_equiv (λ (message : Pair). message.value) nat_list_eq_equiv) in
     and_equiv (on_equiv (λ (catalogue : Catalogue). catalogue.tag) nat_list_eq_equiv)
     (on_equiv (λ (catalogue : Catalogue). catalogue.messages) (lists_equiv message_eq_equiv))
 

@@ -6,3 +6,4 @@ pub mod RecordOrder
 pub mod Sizes
 pub mod Order
 pub mod Kept
+pub mod Equality

@@ -1,7 +1,12 @@
 //! What is so of every edition of every log. None of these does anything when it is called.
 ghost use Rattle.mf_edition.specs.Edition.{ChangesAreBounded, EditionsAreNumbered, EditionsFollow, EditionsHaveDistinctNames, EditionsStay, NewestIsLast};
+ghost use Rattle.mf_edition.specs.Equality.{IsExact};
 ghost use Rattle.mf_edition.specs.Records.{RecordsAreByTag};
 ghost use Rattle.mf_edition.specs.Sizes.{LongerLogsUseMore};
+ghost use Rattle.mf_edition.specs.contracts.catalogue.CataloguePartialEq.TheImpl as catalogue;
+ghost use Rattle.mf_edition.specs.contracts.change.ChangePartialEq.TheImpl as change;
+ghost use Rattle.mf_edition.specs.contracts.change.EntryPartialEq.TheImpl as entry;
+ghost use Rattle.mf_edition.specs.contracts.item.ItemPartialEq.TheImpl as item;
 
 /// No two messages of an edition have one tag and one id.
 pub fn editions_have_distinct_names()
@@ -41,4 +46,12 @@ pub fn records_are_by_tag()
 /// Of two fronts of a log the longer one uses more bytes.
 pub fn longer_logs_use_more()
     ensures { LongerLogsUseMore }
+{}
+
+/// Two messages, catalogues, changes or entries are equal exactly where they are the same.
+pub fn equality_is_exact()
+    ensures items { IsExact item.ghosts.eq }
+    ensures catalogues { IsExact catalogue.ghosts.eq }
+    ensures changes { IsExact change.ghosts.eq }
+    ensures entries { IsExact entry.ghosts.eq }
 {}

@@ -19,7 +19,7 @@ pub use error::{PublishError, Refusal};
 pub use item::{Found, Item};
 pub use laws::{
     changes_are_bounded, editions_are_numbered, editions_follow, editions_have_distinct_names,
-    editions_stay, longer_logs_use_more, newest_is_last, records_are_by_tag,
+    editions_stay, equality_is_exact, longer_logs_use_more, newest_is_last, records_are_by_tag,
 };
 pub use log::Log;
 pub use publications::Publications;
