@@ -1,5 +1,5 @@
 -- The equality of messages, catalogues, changes and entries is true exactly where they are the same.
-use Rattle.std.proofs.Common.{◌≡◌, ℕ, Bool, true, false, List, refl, ap, sym, ◌∙◌, true≢false}
+use Rattle.std.proofs.Common.{◌≡◌, true, ap, sym, true≢false}
 use Rattle.std.proofs.lemmas.Bool.Decides.{Decides-eqb}
 use Rattle.std.specs.Cmp.Lexicographic.{pointwise_decides, bytes_decides}
 use Rattle.mf_text.specs.declared.pair.Pair.{Pair}

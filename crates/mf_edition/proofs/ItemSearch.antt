@@ -8,7 +8,7 @@ use Rattle.std.specs.declared.alloc.Global.{Global}
 use Rattle.std.specs.declared.sync.Arc.{Arc}
 use Rattle.mf_text.specs.Order.{byte_cmp, byte_cmp_total}
 use Rattle.mf_text.specs.declared.pair.Pair.{Pair}
-use Rattle.mf_edition.specs.Catalogues.{compared, insert_item, AreAscending, IsCatalogue, IsItemAt, IsItemGap}
+use Rattle.mf_edition.specs.Catalogues.{compared, insert_item, AreInIdOrder, IsCatalogue, IsItemAt, IsItemGap}
 use Rattle.mf_edition.specs.Items.{Item, item_of, item_values, message_of}
 use Rattle.mf_text.specs.Pairs.{insert_pair}
 use Rattle.mf_text.proofs.Ordered as ordered
@@ -18,7 +18,7 @@ use Rattle.mf_text.proofs.Pairs.{byte_equal}
 abbrev id_of : Item → List ℕ
 id_of item = item.id
 
-pub search_result : (items : List (Arc Item Global)) (id : List ℕ) → AreAscending (item_values items)
+pub search_result : (items : List (Arc Item Global)) (id : List ℕ) → AreInIdOrder (item_values items)
     → (r : Result ℕ ℕ) → IsSearchInRange r (length items) → IsBinarySearchResult (compared id) items r → MatchResult r (λ at. IsItemAt items id at) (λ at. IsItemGap items id at)
 search_result = shared.search_result id_of byte_cmp byte_cmp_total byte_equal
 

@@ -7,7 +7,7 @@ use Rattle.std.specs.Ordering.{is_eq, match_ordering}
 use Rattle.std.specs.Result.{MatchResult}
 use Rattle.std.specs.declared.cmp.Ordering.{Ordering}
 use Rattle.std.specs.declared.cmp.Ordering.TheVariants.{Less, Equal, Greater}
-use Rattle.mf_edition.specs.RecordOrder.{compared, AreAscending, IsRecordAt, IsRecordGap}
+use Rattle.mf_edition.specs.RecordOrder.{compared, AreInTagOrder, IsRecordAt, IsRecordGap}
 use Rattle.mf_edition.specs.Records.{is_for, put_record, record_of, tag_cmp, RecordsAreByTag}
 use Rattle.mf_edition.specs.declared.record.TaggedRecord.{TaggedRecord}
 use Rattle.mf_text.proofs.Ordered as ordered
@@ -23,7 +23,7 @@ same_tag a b equal = (bytes_decides a b).0 (texts_ties a b ∙ ap is_eq equal)
 is_for-cmp : (tag : List ℕ) (tagged : TaggedRecord) (o : Ordering) → tag_cmp tagged.tag tag ≡ o → is_for tag tagged ≡ is_eq o
 is_for-cmp tag tagged o is = texts_ties tagged.tag tag ∙ ap is_eq is
 
-pub search_result : (records : List TaggedRecord) (tag : List ℕ) → AreAscending records
+pub search_result : (records : List TaggedRecord) (tag : List ℕ) → AreInTagOrder records
     → (r : Result ℕ ℕ) → IsSearchInRange r (length records) → IsBinarySearchResult (compared tag) records r → MatchResult r (λ at. IsRecordAt records tag at) (λ at. IsRecordGap records tag at)
 search_result = ordered.search_result tag_of tag_cmp nat_list_cmp_total same_tag
 
@@ -35,10 +35,10 @@ put_found = ordered.put_there tag_of tag_cmp nat_list_cmp_total same_tag
 pub put_gap : (records : List TaggedRecord) (new : TaggedRecord) (at : ℕ) → IsRecordGap records new.tag at → insert records at new ≡ put_record records new
 put_gap = ordered.put_between tag_of tag_cmp nat_list_cmp_total same_tag
 
-pub AreAscending-put_record : (records : List TaggedRecord) (new : TaggedRecord) → AreAscending records → AreAscending (put_record records new)
-AreAscending-put_record records new = ordered.ascending_put tag_of tag_cmp nat_list_cmp_total same_tag new records
+pub AreInTagOrder-put_record : (records : List TaggedRecord) (new : TaggedRecord) → AreInTagOrder records → AreInTagOrder (put_record records new)
+AreInTagOrder-put_record records new = ordered.ascending_put tag_of tag_cmp nat_list_cmp_total same_tag new records
 
-pub ascending_none : AreAscending []
+pub ascending_none : AreInTagOrder []
 ascending_none = ordered.ascending_none (λ a b. tag_cmp a.tag b.tag)
 
 -- the record that was found is that of the tag

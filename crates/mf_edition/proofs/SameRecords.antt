@@ -1,10 +1,10 @@
 -- The equality of locale records is true exactly where they are the same.
-use Rattle.std.proofs.Common.{◌≡◌, ℕ, Bool, true, false, ◌&&◌, ◌==◌, List, Option, None, Some, cond, refl, ap, ap₂, sym, subst, ◌∙◌, true≢false}
+use Rattle.std.proofs.Common.{◌≡◌, ℕ, Bool, true, false, ◌&&◌, ◌==◌, Option, None, Some, cond, refl, ap, ap₂, sym, subst, ◌∙◌, true≢false}
 use Rattle.std.proofs.Props.{props}
 use Rattle.std.proofs.lemmas.Bool.Decides.{Decides-eqb}
 use Rattle.std.specs.Bool.{beq, IsTrue}
 use Rattle.std.specs.Cmp.{IsEquivalence}
-use Rattle.std.specs.Cmp.Lexicographic.{pointwise, pointwise_decides, bytes_decides}
+use Rattle.std.specs.Cmp.Lexicographic.{pointwise_decides, bytes_decides}
 use Rattle.std.specs.Option.{option_eq}
 use mathlib.Core.HLevel.{is_prop→PathP}
 use Rattle.mf_text.specs.contracts.direction.DirectionPartialEq.TheImpl as direction

@@ -12,7 +12,7 @@ use Rattle.mf_edition.specs.declared.change.Change.TheVariants.{Catalogue, Local
 use Rattle.mf_edition.specs.declared.change.Entry.{Entry}
 use Rattle.mf_edition.specs.declared.error.Refusal.TheVariants.{EditionsFull, StoreFull}
 use Rattle.mf_edition.specs.Items.{Item, item_values, message_of}
-use Rattle.mf_edition.specs.Catalogues.{catalogue_of, AreAscending, IsCatalogue}
+use Rattle.mf_edition.specs.Catalogues.{catalogue_of, AreInIdOrder, IsCatalogue}
 use Rattle.mf_edition.specs.Catalogues.{Catalogue as Known}
 use Rattle.mf_edition.specs.Edition.{empty_edition, message_count, newest_edition, HasRoom}
 use Rattle.mf_edition.specs.Sizes.{byte_count, least_size, messages_by, messages_size, most_bytes, most_entries, refusal_of, shown, size_of, used_by, IsWithin, LongerLogsUseMore}
@@ -68,7 +68,7 @@ ids_above low (item ∷ items) above =
     let rest = ids_above low items above.1 in
     omega arith
 
-pub messages_counted : (items : List Item) → AreAscending items → length items ≤ 1 + messages_size (map message_of items)
+pub messages_counted : (items : List Item) → AreInIdOrder items → length items ≤ 1 + messages_size (map message_of items)
 unfolding IsStrictlySortedBy
 messages_counted [] up = omega arith
 messages_counted (item ∷ items) up = let rest = ids_above item items up.0 in omega arith

@@ -41,13 +41,13 @@ catalogue_eq_equiv =
     (on_equiv (λ (catalogue : Catalogue). catalogue.messages) (lists_equiv message_eq_equiv))
 
 -- the items are in the byte order of their ids, each id once
-abbrev pub AreAscending : List Item → Type 0
-AreAscending items = IsStrictlySortedBy (λ a b. byte_cmp a.id b.id) items
+abbrev pub AreInIdOrder : List Item → Type 0
+AreInIdOrder items = IsStrictlySortedBy (λ a b. byte_cmp a.id b.id) items
 
 -- the items are all of this tag, and their ids ascend
 pub record IsCatalogue (tag : List ℕ) (items : List Item) : Type 0 where
   pub tagged : map (item_of tag) (map message_of items) ≡ items
-  pub ascending : AreAscending items
+  pub ascending : AreInIdOrder items
 
 -- an item among items that are in the byte order of their ids: of two with one id the later one counts
 abbrev pub insert_item : Item → List Item → List Item

@@ -6,7 +6,7 @@ use Rattle.std.specs.declared.sync.Arc.{Arc}
 use Rattle.mf_edition.specs.Items.{Item, item_values}
 use Rattle.mf_edition.specs.Edition.{EditionState}
 use Rattle.mf_edition.specs.Order.{names_in, IsOrder}
-use Rattle.mf_edition.specs.RecordOrder.{AreAscending}
+use Rattle.mf_edition.specs.RecordOrder.{AreInTagOrder}
 use Rattle.mf_edition.specs.declared.record.TaggedRecord.{TaggedRecord}
 
 -- what callers see
@@ -17,4 +17,4 @@ state_of number items records = record { number = number; items = item_values it
 pub record IsKept (items : List (Arc Item Global)) (order : List ℕ) (records : List TaggedRecord) : Type 0 where
   pub few : length items < 2 ^ 32
   pub ordered : IsOrder (names_in items) order
-  pub ascending : AreAscending records
+  pub ascending : AreInTagOrder records

@@ -7,8 +7,8 @@ use Rattle.mf_edition.specs.Records.{tag_cmp}
 use Rattle.mf_edition.specs.declared.record.TaggedRecord.{TaggedRecord}
 
 -- the records are in the order of their tags, each tag once
-abbrev pub AreAscending : List TaggedRecord → Type 0
-AreAscending records = IsStrictlySortedBy (λ a b. tag_cmp a.tag b.tag) records
+abbrev pub AreInTagOrder : List TaggedRecord → Type 0
+AreInTagOrder records = IsStrictlySortedBy (λ a b. tag_cmp a.tag b.tag) records
 
 -- how the tag of a record compares with this one
 abbrev pub compared : List ℕ → TaggedRecord → Ordering

@@ -1,6 +1,6 @@
 ghost use Rattle.std.specs.Prelude.{◌≡◌, [], chars, length, IfOk, MatchResult, OnErr, OnOk};
 ghost use Rattle.std.specs.Arc.{arc_value};
-ghost use Rattle.mf_edition.specs.Catalogues.{AreAscending, IsCatalogue, IsItemAt, IsItemGap, catalogue_of, insert_item};
+ghost use Rattle.mf_edition.specs.Catalogues.{AreInIdOrder, IsCatalogue, IsItemAt, IsItemGap, catalogue_of, insert_item};
 ghost use Rattle.mf_text.specs.Pairs.{insert_pair};
 ghost use Rattle.mf_edition.specs.Items.{item_values};
 
@@ -111,7 +111,7 @@ fn insert_item(items: &mut Vec<Arc<Item>>, item: Arc<Item>) -> Result<(), AllocE
 
 /// Where the item of an id stands, or where it would have to stand.
 fn search(items: &[Arc<Item>], id: &str) -> Result<usize, usize>
-    requires { AreAscending (item_values items.now) }
+    requires { AreInIdOrder (item_values items.now) }
     ensures { MatchResult result
         (λ index. IsItemAt items.now (chars id.now) index)
         (λ index. IsItemGap items.now (chars id.now) index) }

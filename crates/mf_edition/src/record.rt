@@ -2,7 +2,7 @@ ghost use Rattle.std.specs.Prelude.{◌≡◌, MatchResult, OnErr, OnOk};
 ghost use Rattle.std.specs.Option.{option_copied};
 ghost use Rattle.mf_locale.specs.Chain.{truncations};
 ghost use Rattle.mf_locale.specs.Records.{root_record};
-ghost use Rattle.mf_edition.specs.RecordOrder.{AreAscending, IsRecordAt, IsRecordGap};
+ghost use Rattle.mf_edition.specs.RecordOrder.{AreInTagOrder, IsRecordAt, IsRecordGap};
 ghost use Rattle.mf_edition.specs.Records.{first_record, place_for, put_record, record_of, tag_cmp};
 
 use mf_locale::{LocaleRecord, SharedRecord, Tag};
@@ -30,9 +30,9 @@ impl Clone for TaggedRecord {
 /// Puts a record in: it takes the place of that of its tag, or goes before that of the next higher
 /// tag. After an error all is as it was.
 pub fn put_record(records: &mut Vec<TaggedRecord>, new: TaggedRecord) -> Result<(), AllocError>
-    requires { AreAscending records.old.items }
+    requires { AreInTagOrder records.old.items }
     ensures ok { OnOk result (records.new.items ≡ put_record records.old.items new) }
-    ensures ascending { AreAscending records.new.items }
+    ensures ascending { AreInTagOrder records.new.items }
     ensures err { OnErr result (records.new.items ≡ records.old.items) }
 {
     match search(records, new.tag.as_text().as_str()) {
@@ -44,7 +44,7 @@ pub fn put_record(records: &mut Vec<TaggedRecord>, new: TaggedRecord) -> Result<
 
 /// Where the record of the tag that this text is stands, or where it would have to stand.
 fn search(records: &[TaggedRecord], tag: &str) -> Result<usize, usize>
-    requires { AreAscending records.now }
+    requires { AreInTagOrder records.now }
     ensures { MatchResult result
         (λ index. IsRecordAt records.now tag.now index)
         (λ index. IsRecordGap records.now tag.now index) }
@@ -61,7 +61,7 @@ fn compare_tag(tagged: &TaggedRecord, tag: &str) -> Ordering
 
 /// The record of the tag that this text is, if it has one.
 fn record_of<'a>(records: &'a [TaggedRecord], tag: &str) -> Option<&'a LocaleRecord>
-    requires { AreAscending records.now }
+    requires { AreInTagOrder records.now }
     ensures { option_copied result ≡ record_of records.now tag.now }
 {
     match search(records, tag) {
@@ -73,7 +73,7 @@ fn record_of<'a>(records: &'a [TaggedRecord], tag: &str) -> Option<&'a LocaleRec
 /// The record of the first that has one: the tag that this text is, the tag with its last subtag
 /// dropped, and so on.
 fn first_record<'a>(records: &'a [TaggedRecord], tag: &str) -> Option<&'a LocaleRecord>
-    requires { AreAscending records.now }
+    requires { AreInTagOrder records.now }
     ensures { option_copied result ≡ first_record records.now (truncations tag.now) }
 {
     let mut rest = tag;
@@ -94,7 +94,7 @@ pub fn place_for<'a>(
     tag: &Tag,
 ) -> &'a LocaleRecord
     requires root { root.now ≡ root_record }
-    requires ascending { AreAscending records.now }
+    requires ascending { AreInTagOrder records.now }
     ensures { result.now ≡ place_for records.now tag.now }
 {
     if let Some(found) = first_record(records, tag.as_text().as_str()) {

@@ -1,7 +1,7 @@
 use Rattle.std.proofs.Common.{◌≡◌, encode_utf8_all, ap, sym, ◌∙◌, subst}
 use Rattle.mf_locale.proofs.Truncations.{encode-IsLowerTag}
-use Rattle.mf_edition.specs.RecordOrder.{AreAscending, IsRecordAt, IsRecordGap}
-use Rattle.mf_edition.proofs.RecordSearch.{put_found, put_gap, AreAscending-put_record}
+use Rattle.mf_edition.specs.RecordOrder.{AreInTagOrder, IsRecordAt, IsRecordGap}
+use Rattle.mf_edition.proofs.RecordSearch.{put_found, put_gap, AreInTagOrder-put_record}
 use Rattle.mf_edition.proofs.record.put_record.Goals as goal
 use Rattle.mf_edition.proofs.record.put_record.Goals.{After-search}
 
@@ -16,7 +16,7 @@ returns-in-Ok-clause-ok c =
 
 pub returns-in-Ok-clause-ascending : goal.returns-in-Ok-clause-ascending
 returns-in-Ok-clause-ascending c =
-    subst AreAscending (sym (returns-in-Ok-clause-ok c)) (AreAscending-put_record c.args.records.now.items c.args.new c.requires)
+    subst AreInTagOrder (sym (returns-in-Ok-clause-ok c)) (AreInTagOrder-put_record c.args.records.now.items c.args.new c.requires)
 
 pub returns-in_ok-insert-in-Err-clause-ok : goal.returns-in_ok-insert-in-Err-clause-ok
 returns-in_ok-insert-in-Err-clause-ok c =
@@ -26,4 +26,4 @@ returns-in_ok-insert-in-Err-clause-ok c =
 
 pub returns-in_ok-insert-in-Err-clause-ascending : goal.returns-in_ok-insert-in-Err-clause-ascending
 returns-in_ok-insert-in-Err-clause-ascending c =
-    subst AreAscending (sym (returns-in_ok-insert-in-Err-clause-ok c)) (AreAscending-put_record c.args.records.now.items c.args.new c.requires)
+    subst AreInTagOrder (sym (returns-in_ok-insert-in-Err-clause-ok c)) (AreInTagOrder-put_record c.args.records.now.items c.args.new c.requires)

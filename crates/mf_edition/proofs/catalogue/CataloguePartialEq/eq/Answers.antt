@@ -12,7 +12,7 @@ returns-then-eq c =
     let tags : pointwise nat_eq a.tag b.tag ≡ true = sym c.eq.ensures ∙ c.if-eq.true in
     let tag : a.tag ≡ b.tag = (bytes_decides a.tag b.tag).0 tags in
     let others : map (item_of a.tag) (map message_of (item_values b.items.items)) ≡ item_values b.items.items =
-        subst (λ tag. map (item_of tag) (map message_of (item_values b.items.items)) ≡ item_values b.items.items) (sym tag) c.other.invariant.tagged in
+    subst (λ tag. map (item_of tag) (map message_of (item_values b.items.items)) ≡ item_values b.items.items) (sym tag) c.other.invariant.tagged in
     c.eq-then-eq.ensures
     ∙ same_messages a.tag a.items.items b.items.items c.self.invariant.tagged others
     ∙ ap (λ t. t && pointwise message_eq (map message_of (item_values a.items.items)) (map message_of (item_values b.items.items))) (sym tags)

@@ -1,5 +1,5 @@
 use Rattle.std.proofs.Common.{rules, sym, subst}
-use Rattle.mf_edition.specs.RecordOrder.{AreAscending}
+use Rattle.mf_edition.specs.RecordOrder.{AreInTagOrder}
 use Rattle.mf_edition.proofs.RecordSearch.{ascending_none}
 use Rattle.mf_edition.proofs.edition.Edition.empty.Goals as goal
 
@@ -8,7 +8,7 @@ invariant_of-result c = (
   record {
     few = search rules;
     ordered = search rules;
-    ascending = subst AreAscending (sym c.new-4.ensures.items) ascending_none;
+    ascending = subst AreInTagOrder (sym c.new-4.ensures.items) ascending_none;
   },
   search rules,
 )

@@ -5,7 +5,7 @@ use Rattle.std.specs.Arc.{arc_value}
 use Rattle.std.specs.List.{each_same}
 use Rattle.mf_edition.specs.Items.{item_values}
 use Rattle.mf_edition.specs.Order.{names_of, IsOrder}
-use Rattle.mf_edition.specs.RecordOrder.{AreAscending}
+use Rattle.mf_edition.specs.RecordOrder.{AreInTagOrder}
 use Rattle.mf_edition.proofs.Growth.{values_shared}
 use Rattle.mf_edition.proofs.edition.EditionClone.clone.Goals as goal
 use Rattle.mf_edition.proofs.edition.EditionClone.clone.Goals.{In_ok-root}
@@ -26,7 +26,7 @@ invariant_of-result c =
         ordered =
             subst (λ os. IsOrder (names_of (item_values c.in_ok-items.items.items)) os) (sym order)
             (subst (λ its. IsOrder (names_of its) c.self.inside.order.items) (sym (same_items at)) c.self.invariant.0.ordered);
-        ascending = subst AreAscending (sym (same_records at)) c.self.invariant.0.ascending;
+        ascending = subst AreInTagOrder (sym (same_records at)) c.self.invariant.0.ascending;
       },
       c.in_ok-root.ensures.cases ∙ c.self.invariant.1,
     )
