@@ -1,3 +1,6 @@
+-- Read in this order: Items and Catalogues, the messages of a publication; Records, the locale records of an edition; Edition,
+-- the fold of a log; Sizes, what changes count for and which are refused; Equality. Order, RecordOrder and Kept are for
+-- private clauses.
 pub mod Items
 pub mod Catalogues
 pub mod Edition

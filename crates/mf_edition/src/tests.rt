@@ -328,3 +328,16 @@ fn a_log_has_so_many_entries(rt: HostRuntime) -> Result<(), Fail> {
     assert_eq!(rt; log.used(), 65_536 * 66);
     Ok(())
 }
+
+#[test]
+fn entries_are_equal_by_their_values(rt: HostRuntime) -> Result<(), Fail> {
+    let one = entry(1, catalogue(rt.alloc(), "en", &[("a", "b")])?);
+    let same = entry(1, catalogue(rt.alloc(), "EN", &[("a", "c"), ("a", "b")])?);
+    let other = entry(1, catalogue(rt.alloc(), "en", &[("ab", "")])?);
+    assert!(rt; one == same);
+    assert!(rt; one != other);
+    let comma = entry(1, locale(rt.alloc(), "en", ",", 77)?);
+    assert!(rt; comma == entry(1, locale(rt.alloc(), "en", ",", 77)?));
+    assert!(rt; comma != entry(1, locale(rt.alloc(), "en", ".", 77)?));
+    Ok(())
+}
