@@ -1,4 +1,3 @@
-pub mod Collected
 pub mod First
 pub mod Listed
 pub mod Seen

@@ -13,8 +13,7 @@ use std::alloc::{AllocError, Global};
 /// The errors that make a message invalid: by classes in their order, and within a class in the order of the source.
 ///
 /// Names, identifiers and literal keys are compared by their Normalization Form C. The cost is near linear in the size of
-/// the message but for the declarations of a matcher: of each it is asked, through as many others as there are at most,
-/// whether it annotates its variable. A plan has at most 256 declarations.
+/// the message.
 pub fn faults(alloc: Global, message: &Message) -> Result<Faults, AllocError>
     ensures { IfOk result (λ found. found ≡ faults_of message.now) }
 {

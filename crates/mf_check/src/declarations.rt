@@ -107,7 +107,7 @@ fn is_in_value(name: &Name, value: &OptionValue) -> bool
 }
 
 /// Whether the variable has been noted.
-pub fn is_seen<'a>(seen: &BTreeSet<&'a Text>, name: &'a Name) -> bool
+fn is_seen<'a>(seen: &BTreeSet<&'a Text>, name: &'a Name) -> bool
     ensures { (test : NameNode → Bool) → AreNamesSeen test seen.now → result ≡ test name.now }
 {
     let value = &name.value;
@@ -115,7 +115,7 @@ pub fn is_seen<'a>(seen: &BTreeSet<&'a Text>, name: &'a Name) -> bool
 }
 
 /// Notes a variable.
-pub fn see_name<'a>(seen: &mut BTreeSet<&'a Text>, name: &'a Name) -> Result<(), AllocError>
+fn see_name<'a>(seen: &mut BTreeSet<&'a Text>, name: &'a Name) -> Result<(), AllocError>
     ensures { OnOk result (AreNamesSeenToo (λ other. is_same_name other name.now) seen.old seen.new) }
 {
     seen.insert(&name.value)?;

@@ -2,10 +2,9 @@
 ghost use Rattle.std.specs.Prelude.{◌≡◌, ◌++◌, Bool, Some, IfOk, OnOk};
 ghost use Rattle.mf_tree.specs.declared.name.Name.{Name as NameNode};
 ghost use Rattle.mf_tree.specs.Faults.{is_annotated as is_annotated_by, first_declaration, is_annotating, missing_selector_annotations};
-ghost use Rattle.mf_check.specs.Annotations.{annotates, HasFirst};
-ghost use Rattle.mf_check.specs.Seen.{AreNamesSeen};
+ghost use Rattle.mf_check.specs.Annotations.{annotates, AreAlike, AreAnswers, HasFirst};
 
-use crate::declarations::{expression_of, is_seen, name_of, see_name};
+use crate::declarations::{expression_of, name_of};
 use crate::shown::show_variable;
 use mf_text::Text;
 use mf_tree::{Declaration, Fault, Faults, Kind, Name, Operand};
@@ -13,17 +12,18 @@ use std::alloc::{AllocError, Global};
 use std::collections::{BTreeMap, BTreeSet};
 
 /// Adds an error for each selector that isn't annotated.
-pub fn add_missing_annotations(
+pub fn add_missing_annotations<'a>(
     alloc: Global,
     found: &mut Faults,
-    declarations: &[Declaration],
-    selectors: &[Name],
+    declarations: &'a [Declaration],
+    selectors: &'a [Name],
 ) -> Result<(), AllocError>
     ensures { OnOk result (found.new ≡ found.old ++ missing_selector_annotations declarations.now selectors.now) }
 {
-    let annotated = annotated_variables(alloc, declarations)?;
+    let first = first_declarations(alloc, declarations)?;
+    let mut answers = BTreeMap::new(alloc);
     for selector in selectors {
-        if !is_seen(&annotated, selector) {
+        if !is_annotated(alloc, declarations, &first, &mut answers, selector)? {
             found.push(Fault {
                 kind: Kind::MissingSelectorAnnotation,
                 of: show_variable(alloc, selector)?,
@@ -31,24 +31,6 @@ pub fn add_missing_annotations(
         }
     }
     Ok(())
-}
-
-/// The variables that are annotated, each of which a declaration binds.
-fn annotated_variables<'a>(
-    alloc: Global,
-    declarations: &'a [Declaration],
-) -> Result<BTreeSet<&'a Text>, AllocError>
-    ensures { IfOk result (λ annotated. AreNamesSeen (is_annotated_by declarations.now) annotated) }
-{
-    let first = first_declarations(alloc, declarations)?;
-    let mut annotated = BTreeSet::new(alloc);
-    for declaration in declarations {
-        let name = name_of(declaration);
-        if is_annotated(declarations, &first, name) {
-            see_name(&mut annotated, name)?;
-        }
-    }
-    Ok(annotated)
 }
 
 /// The first declaration of each variable, by the variable's value.
@@ -68,24 +50,63 @@ fn first_declarations<'a>(
     Ok(first)
 }
 
-/// Whether a variable is annotated, which at most as many declarations as there are can tell.
+/// Whether a variable is annotated. The answer is kept for each variable on the way to it, so that none is passed again.
 fn is_annotated<'a>(
+    alloc: Global,
     declarations: &'a [Declaration],
     first: &BTreeMap<&'a Text, &'a Declaration>,
+    answers: &mut BTreeMap<&'a Text, bool>,
     name: &'a Name,
-) -> bool
-    requires { HasFirst declarations.now first.now }
-    ensures { result ≡ is_annotated_by declarations.now name.now }
+) -> Result<bool, AllocError>
+    requires first { HasFirst declarations.now first.now }
+    requires answers { AreAnswers declarations.now answers.now }
+    ensures told { IfOk result (λ annotated. annotated ≡ is_annotated_by declarations.now name.now) }
+    ensures answers { OnOk result (AreAnswers declarations.now answers.new) }
 {
+    let mut path = Vec::new(alloc);
+    let annotated = walk(alloc, declarations, first, answers, &mut path, name)?;
+    for passed in &path {
+        answers.insert(&passed.value, annotated)?;
+    }
+    Ok(annotated)
+}
+
+/// Whether a variable is annotated: goes from operand to operand until a declaration tells, or an answer that is kept, or
+/// the path meets itself, which annotates nothing. Each variable that is passed has the same answer. As many steps as
+/// there are declarations are enough.
+fn walk<'a>(
+    alloc: Global,
+    declarations: &'a [Declaration],
+    first: &BTreeMap<&'a Text, &'a Declaration>,
+    answers: &BTreeMap<&'a Text, bool>,
+    path: &mut Vec<&'a Name>,
+    name: &'a Name,
+) -> Result<bool, AllocError>
+    requires first { HasFirst declarations.now first.now }
+    requires answers { AreAnswers declarations.now answers.now }
+    requires alike { AreAlike declarations.now name.now path.now.items }
+    ensures told { IfOk result (λ annotated. annotated ≡ is_annotated_by declarations.now name.now) }
+    ensures alike { OnOk result (AreAlike declarations.now name.now path.new.items) }
+{
+    let mut on_path = BTreeSet::new(alloc);
     let mut name = name;
     'walk: for _ in declarations {
+        let value = &name.value;
+        if let Some(answer) = answers.get(&value) {
+            return Ok(*answer);
+        }
+        let is_new = on_path.insert(value)?;
+        if !is_new {
+            return Ok(false);
+        }
+        path.push(name)?;
         match annotation_of(declarations, first, name) {
-            Annotation::Function => return true,
-            Annotation::Nothing => return false,
+            Annotation::Function => return Ok(true),
+            Annotation::Nothing => return Ok(false),
             Annotation::Variable(operand) => name = operand,
         }
     }
-    false
+    Ok(false)
 }
 
 /// What annotates a variable in its first declaration.

@@ -133,6 +133,15 @@ const SELECTED: &[(&[Bound<'static>], &[&str], &str)] = &[
         "missing-selector-annotation $a;missing-selector-annotation $b;duplicate-declaration $b;",
     ),
     (
+        &[
+            ("a", Some("$b"), None),
+            ("b", Some("$c"), None),
+            ("c", Some("$b"), None),
+        ],
+        &["a", "c"],
+        "missing-selector-annotation $a;missing-selector-annotation $c;duplicate-declaration $b;duplicate-declaration $c;",
+    ),
+    (
         &[("a", Some("$a"), None)],
         &["a"],
         "missing-selector-annotation $a;duplicate-declaration $a;",
