@@ -21,4 +21,4 @@ pub use built_ins::BuiltIns;
 pub use number::{integer_fn, number_fn};
 pub use selecting::{Selecting, select_rank};
 pub use shown::shown_text;
-pub use string::{operand_text, refused_options, string_fn, text_value};
+pub use string::{bad_operand, operand_text, refused_options, string_fn, text_value};

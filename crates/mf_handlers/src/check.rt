@@ -2,6 +2,7 @@
 
 ghost use Rattle.std.specs.Prelude.{◌≡◌};
 ghost use Rattle.mf_meaning.specs.Handlers as handlers;
+ghost use Rattle.mf_value.specs.Entries.{repeated_key};
 ghost use Rattle.mf_handlers.specs.Sizes.{AreFew, IsFew};
 
 use mf_functions::allows_preset;
@@ -55,7 +56,7 @@ fn check_base(base: Option<BuiltIn>, presets: &[Pair]) -> Result<(), DefError>
 
 /// The place of the first preset that the base doesn't allow.
 fn bad_preset(base: BuiltIn, presets: &[Pair]) -> Option<usize>
-    ensures { result ≡ handlers.bad_preset presets.now base }
+    ensures { result ≡ handlers.bad_preset base presets.now }
 {
     presets.iter().position(|preset| !allows_preset(base, preset))
 }

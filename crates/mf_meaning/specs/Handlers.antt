@@ -1,5 +1,6 @@
 -- What a handler of an edition is, and what a call of it gives; and the functions of an edition with its handlers.
 use Rattle.std.specs.Prelude.{refl, ℕ, ◌+◌, Bool, true, false, not, ◌||◌, List, [], ◌∷◌, ◌++◌, codes, Option, Some, None, option_map, option_and_then, encode_utf8_all, Result, Ok, Err, if◌then◌else◌}
+use Rattle.std.specs.List.{position_from}
 use Rattle.std.specs.Option.{is_some, option_or}
 use Rattle.std.specs.Str.{bytes_eq}
 use Rattle.unicode_normalization.specs.Forms.{nfc}
@@ -52,10 +53,14 @@ underlying_called locale (Table entries default) presets operand written = table
 abbrev pub affixed : List ℕ → List ℕ → Value → Value
 affixed prefix suffix value = record value { prefix = prefix ++ value.prefix; suffix = value.suffix ++ suffix }
 
+-- what was called, its value between them
+abbrev pub called_between : List ℕ → List ℕ → Called → Called
+called_between prefix suffix called = record called { value = option_map (affixed prefix suffix) called.value }
+
 -- what a handler makes of what it called: an affix puts the value between its prefix and its suffix
 abbrev pub handled : HandlerDef → Called → Called
 handled (Alias base presets) called = called
-handled (Affix base presets prefix suffix) called = record called { value = option_map (affixed prefix suffix) called.value }
+handled (Affix base presets prefix suffix) called = called_between prefix suffix called
 handled (Table entries default) called = called
 
 -- what a call of a handler gives
@@ -72,10 +77,9 @@ abbrev pub allows_preset : BuiltIn → Pair → Bool
 allows_preset function.String preset = false
 allows_preset (function.Numeric of_numbers) preset = is_preset_allowed of_numbers preset
 
--- the place of the first preset that isn't allowed
-abbrev pub bad_preset_from : BuiltIn → ℕ → List Pair → Option ℕ
-bad_preset_from base at [] = None
-bad_preset_from base at (preset ∷ others) = if allows_preset base preset then bad_preset_from base (at + 1) others else Some at
+-- the place, from 0, of the first preset that isn't allowed
+abbrev pub bad_preset : BuiltIn → List Pair → Option ℕ
+bad_preset base presets = position_from (λ preset. not (allows_preset base preset)) 0 presets
 
 -- whether the presets are those of the base
 abbrev pub preset_checked : Option ℕ → Result (Unit {0}) DefError
@@ -84,7 +88,7 @@ preset_checked (Some place) = Err (BadOption place)
 
 abbrev pub base_checked : Option BuiltIn → List Pair → Result (Unit {0}) DefError
 base_checked None presets = Err BadBase
-base_checked (Some base) presets = preset_checked (bad_preset_from base 0 presets)
+base_checked (Some base) presets = preset_checked (bad_preset base presets)
 
 -- whether each key of a table is there once
 abbrev pub key_checked : Option ℕ → Result (Unit {0}) DefError
