@@ -1,6 +1,6 @@
 //! A call of a handler.
 
-ghost use Rattle.std.specs.Prelude.{◌≡◌, ◌<◌, ◌++◌, ◌^◌, length, IfOk};
+ghost use Rattle.std.specs.Prelude.{◌≡◌, ◌<◌, ◌++◌, ◌^◌, length, option_and_then, IfOk};
 ghost use Rattle.std.specs.Option.{option_copied};
 ghost use Rattle.mf_meaning.specs.Handlers as handlers;
 
@@ -100,10 +100,8 @@ fn table_called(
     requires few { length options.now < 2 ^ 32 }
     ensures { IfOk result (λ called. called ≡ handlers.table_called entries.now default.now (option_copied operand.entry) options.now) }
 {
-    let Some(asked) = operand_text(alloc, operand)? else {
-        return Ok(bad_operand(alloc));
-    };
-    let Some(text) = table_text(alloc, entries, default, &asked)? else {
+    let asked = operand_text(alloc, operand)?;
+    let Some(text) = found_text(alloc, entries, default, asked)? else {
         return Ok(bad_operand(alloc));
     };
     let faults = refused_options(alloc, options)?;
@@ -111,6 +109,21 @@ fn table_called(
         value: Some(text_value(alloc, text)),
         faults,
     })
+}
+
+/// The text that a table has for a text, if there is one.
+fn found_text(
+    alloc: Global,
+    entries: &Entries,
+    default: &Option<Text>,
+    asked: Option<Text>,
+) -> Result<Option<Text>, AllocError>
+    ensures { IfOk result (λ text. text ≡ option_and_then (handlers.table_text entries.now default.now) asked) }
+{
+    match asked {
+        Some(asked) => table_text(alloc, entries, default, &asked),
+        None => Ok(None),
+    }
 }
 
 /// The text that a table has for a text.

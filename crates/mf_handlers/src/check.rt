@@ -58,7 +58,9 @@ fn check_base(base: Option<BuiltIn>, presets: &[Pair]) -> Result<(), DefError>
 fn bad_preset(base: BuiltIn, presets: &[Pair]) -> Option<usize>
     ensures { result ≡ handlers.bad_preset base presets.now }
 {
-    presets.iter().position(|preset| !allows_preset(base, preset))
+    presets
+        .iter()
+        .position(|preset| !allows_preset(base, preset))
 }
 
 /// Whether each key has a normal form of its own.

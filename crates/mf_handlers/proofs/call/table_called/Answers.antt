@@ -4,5 +4,5 @@ use Rattle.mf_handlers.proofs.call.table_called.Goals as goal
 
 pub returns : goal.returns
 returns c =
-    table_given c.args.entries.now c.args.default.now _ c.args.options.now c.in-Some.asked c.in-Some-2.text c.text_value.result c.in_ok-faults.faults
-    (sym c.in_ok-asked.ensures ∙ c.in-Some.is) (sym c.in_ok-text.ensures ∙ c.in-Some-2.is) c.text_value.ensures c.in_ok-faults.ensures
+    table_given c.args.entries.now c.args.default.now _ c.args.options.now c.in_ok-asked.asked c.in-Some.text c.text_value.result c.in_ok-faults.faults
+    c.in_ok-asked.ensures (sym c.in_ok-text.ensures ∙ c.in-Some.is) c.text_value.ensures c.in_ok-faults.ensures
