@@ -24,6 +24,12 @@ pub enum Call {
     Shown,
     /// A key is ranked for a number.
     Rank,
+    /// An alias with two presets is called.
+    Alias,
+    /// An affix with two presets is called.
+    Affix,
+    /// A table of that many entries is called.
+    Table,
     /// A matcher of that many variants is checked.
     Variants,
     /// That many declarations of a hundred options are checked.
@@ -53,6 +59,12 @@ impl Call {
             Some(Call::Shown)
         } else if word == "rank" {
             Some(Call::Rank)
+        } else if word == "alias" {
+            Some(Call::Alias)
+        } else if word == "affix" {
+            Some(Call::Affix)
+        } else if word == "table" {
+            Some(Call::Table)
         } else if word == "variants" {
             Some(Call::Variants)
         } else if word == "declarations" {

@@ -84,7 +84,7 @@ pub fn four_options(alloc: Global) -> Result<Options, AllocError> {
 }
 
 /// The value that a text has as a literal.
-fn text_value(alloc: Global, text: &str) -> Result<Value, AllocError> {
+pub fn text_value(alloc: Global, text: &str) -> Result<Value, AllocError> {
     Ok(Value {
         content: Content::Text(Text::of(alloc, text)?),
         dir: Direction::Unknown,

@@ -1,14 +1,16 @@
-//! The program `mf_bench`: does one call of the decimals, of number texts, of the plural rules, of the built-in functions or of
-//! the checks of a message many times, so that `bench/run` can time it.
+//! The program `mf_bench`: does one call of the decimals, of number texts, of the plural rules, of the built-in functions, of
+//! handlers or of the checks of a message many times, so that `bench/run` can time it.
 //!
 //! Its words are `read TEXT COUNT`, `round TEXT COUNT`, `exact TEXT COUNT`, `text TEXT COUNT`,
 //! `category TEXT COUNT RULES`, `number TEXT COUNT`, `options TEXT COUNT` (the same with four options), `shown TEXT COUNT`,
-//! `rank TEXT COUNT KEY`, `variants SIZE COUNT` and `declarations SIZE COUNT`. It prints one line, a sum over the results, so that no call can be left out. After any
-//! other words it ends with status 1.
+//! `rank TEXT COUNT KEY`, `alias TEXT COUNT` and `affix TEXT COUNT` (with two presets), `table TEXT COUNT ENTRIES`,
+//! `variants SIZE COUNT` and `declarations SIZE COUNT`. It prints one line, a sum over the results, so that no call can be left
+//! out. After any other words it ends with status 1.
 #![tactic(auto)]
 
 mod call;
 mod functions;
+mod handlers;
 mod layouts;
 mod repeat;
 mod sources;
@@ -16,7 +18,7 @@ mod sources;
 use call::Call;
 use mf_decimal::{Decimal, read};
 use mf_plural::{RuleError, Rules, read_rules};
-use mf_value::Options;
+use mf_value::{HandlerDef, Options};
 use std::alloc::AllocError;
 use std::process::ExitCode;
 use std::{env, io};
@@ -86,6 +88,11 @@ fn key_of(task: &Task) -> &str {
     }
 }
 
+/// The sum over the calls of a handler.
+fn called(rt: &HostRuntime, def: &HandlerDef, task: &Task) -> Result<u64, AllocError> {
+    handlers::handler_sum(rt.alloc(), def, task.text.as_str(), task.count)
+}
+
 /// The sum over the results, or none where there is no task or its text is no number.
 fn sum(rt: &HostRuntime) -> io::Result<Option<u64>> {
     let Some(task) = read_task(rt)? else {
@@ -121,6 +128,12 @@ fn sum(rt: &HostRuntime) -> io::Result<Option<u64>> {
             key_of(&task),
             task.count,
         )?,
+        Call::Alias => called(rt, &handlers::alias(rt.alloc())?, &task)?,
+        Call::Affix => called(rt, &handlers::affix(rt.alloc())?, &task)?,
+        Call::Table => {
+            let size = key_of(&task).parse::<u64>().unwrap_or(0);
+            called(rt, &handlers::table(rt.alloc(), size)?, &task)?
+        }
         Call::Variants => sources::variants_sum(rt.alloc(), size_of(&task), task.count)?,
         Call::Declarations => sources::declarations_sum(rt.alloc(), size_of(&task), task.count)?,
     };
@@ -133,7 +146,7 @@ fn main(rt: HostRuntime) -> io::Result<ExitCode> {
         Ok(ExitCode::SUCCESS)
     } else {
         eprintln!(rt;
-            "usage: mf_bench read|round|exact|text|number|options|shown TEXT COUNT, mf_bench category TEXT COUNT RULES, mf_bench rank TEXT COUNT KEY, or mf_bench variants|declarations SIZE COUNT"
+            "usage: mf_bench read|round|exact|text|number|options|shown|alias|affix TEXT COUNT, mf_bench category TEXT COUNT RULES, mf_bench rank TEXT COUNT KEY, mf_bench table TEXT COUNT ENTRIES, or mf_bench variants|declarations SIZE COUNT"
         )?;
         Ok(ExitCode::FAILURE)
     }

@@ -1,13 +1,15 @@
 -- The options of a call, read once: for private clauses.
 use Rattle.std.specs.Prelude.{◌≡◌, ℕ, Bool, true, false, not, ◌||◌, List, [], ◌∷◌, Option, Some, None, encode_utf8_all}
 use Rattle.std.specs.Option.{is_some, option_or}
+use Rattle.mf_text.specs.declared.pair.Pair.{Pair}
+use Rattle.mf_value.specs.NumberOptions.{option_named}
 use Rattle.mf_value.specs.Ranges.{is_within, is_way_of_number}
 use Rattle.mf_value.specs.declared.given.Given.{Given}
 use Rattle.mf_value.specs.declared.kept.Kept.{Kept}
 use Rattle.mf_value.specs.declared.number_option.NumberFunction.{NumberFunction}
 use Rattle.mf_value.specs.declared.number_option.NumberOption.{NumberOption}
 use Rattle.mf_value.specs.declared.number_option.NumberOption.TheVariants.{Select, SignDisplay, UseGrouping, MinimumIntegerDigits, MinimumFractionDigits, MaximumFractionDigits, MinimumSignificantDigits, MaximumSignificantDigits}
-use Rattle.mf_meaning.specs.Options.{option_of, value_at, inherited_from, select, sign_display, use_grouping, minimum_integer_digits, minimum_fraction_digits, maximum_fraction_digits, minimum_significant_digits, maximum_significant_digits}
+use Rattle.mf_meaning.specs.Options.{option_at, option_of, value_at, inherited_from, select, sign_display, use_grouping, minimum_integer_digits, minimum_fraction_digits, maximum_fraction_digits, minimum_significant_digits, maximum_significant_digits}
 use Rattle.mf_functions.specs.declared.written.Written.{Written}
 
 -- no option
@@ -39,6 +41,18 @@ with_option w (Some MaximumSignificantDigits) literal text = record w { max_sign
 abbrev pub with_given : NumberFunction → Written → Given → Written
 with_given function w given = with_option w (option_of function given.name) given.literal (encode_utf8_all given.value)
 
+-- a preset counts as given by a literal
+abbrev pub preset_option : NumberFunction → Pair → Option NumberOption
+preset_option function preset = option_at function (option_named (encode_utf8_all preset.name))
+
+abbrev pub with_preset : NumberFunction → Written → Pair → Written
+with_preset function w preset = with_option w (preset_option function preset) true (encode_utf8_all preset.value)
+
+-- the presets of a list behind those that were read
+abbrev pub preset_from : NumberFunction → Written → List Pair → Written
+preset_from function w [] = w
+preset_from function w (preset ∷ others) = preset_from function (with_preset function w preset) others
+
 -- the options of a list behind those that were read
 abbrev pub written_from : NumberFunction → Written → List Given → Written
 written_from function w [] = w
@@ -58,6 +72,9 @@ takes_option (Some MaximumSignificantDigits) literal text = is_some (value_at ma
 
 abbrev pub takes_given : NumberFunction → Given → Bool
 takes_given function given = takes_option (option_of function given.name) given.literal (encode_utf8_all given.value)
+
+abbrev pub takes_preset : NumberFunction → Pair → Bool
+takes_preset function preset = takes_option (preset_option function preset) true (encode_utf8_all preset.value)
 
 -- each value is in its range
 pub record AreInRange (w : Written) : Type 0 where

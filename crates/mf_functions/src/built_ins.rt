@@ -6,13 +6,12 @@ ghost use Rattle.mf_meaning.specs.Functions as functions;
 ghost use Rattle.mf_meaning.specs.Ranks.{built_ins};
 ghost use Rattle.mf_value.specs.Meaning.{IsNoFallback};
 
-use crate::number::{integer_fn, number_fn};
+use crate::base::base_called;
 use crate::selecting::select_rank;
-use crate::string::{bad_operand, string_fn};
 use mf_locale::LocaleRecord;
 use mf_text::{Direction, Text};
 use mf_tree::Identifier;
-use mf_value::{BuiltIn, Called, Functions, NumberFunction, Options, Ranked, Value};
+use mf_value::{BuiltIn, Called, Functions, Options, Ranked, Value};
 use std::alloc::{AllocError, Global};
 
 /// The functions of an edition without handlers, with the numbers of a locale: `:string`, `:number` and `:integer`.
@@ -58,16 +57,7 @@ impl<'a> Functions for BuiltIns<'a> {
         operand: Option<&Value>,
         options: &Options,
     ) -> Result<Called, AllocError> {
-        match built_in(name) {
-            Some(BuiltIn::String) => string_fn(alloc, operand, options),
-            Some(BuiltIn::Numeric(NumberFunction::Number)) => {
-                number_fn(alloc, self.place, operand, options)
-            }
-            Some(BuiltIn::Numeric(NumberFunction::Integer)) => {
-                integer_fn(alloc, self.place, operand, options)
-            }
-            None => Ok(bad_operand(alloc)),
-        }
+        base_called(alloc, self.place, built_in(name), &[], operand, options)
     }
 
     fn rank(&self, alloc: Global, value: &Value, key: &Text) -> Result<Ranked, AllocError> {

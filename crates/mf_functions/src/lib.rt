@@ -5,6 +5,7 @@
 //! read or written.
 #![tactic(auto)]
 
+mod base;
 mod built_ins;
 mod number;
 mod option_values;
@@ -15,8 +16,9 @@ mod shown;
 mod string;
 mod written;
 
+pub use base::{allows_preset, base_called};
 pub use built_ins::BuiltIns;
 pub use number::{integer_fn, number_fn};
 pub use selecting::{Selecting, select_rank};
 pub use shown::shown_text;
-pub use string::string_fn;
+pub use string::{bad_operand, operand_text, refused_options, string_fn, text_value};

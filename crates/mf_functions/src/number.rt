@@ -12,7 +12,7 @@ use crate::reading::{Reading, read_options};
 use crate::written::Written;
 use mf_decimal::{Decimal, read};
 use mf_locale::LocaleRecord;
-use mf_text::{List, Text};
+use mf_text::{List, Pair, Text};
 use mf_value::{Called, Content, Kept, NumberFunction, NumberOption, Options, Selects, Value};
 use std::alloc::{AllocError, Global};
 
@@ -32,7 +32,7 @@ pub fn number_fn(
     requires few { length options.now < 2 ^ 32 }
     ensures { IfOk result (λ called. called ≡ functions.number_called «record».now Number [] (option_copied operand.entry) options.now) }
 {
-    number_called(alloc, record, NumberFunction::Number, operand, options)
+    number_called(alloc, record, NumberFunction::Number, &[], operand, options)
 }
 
 /// `:integer`: the same of the number cut toward zero (Unicode TS 35, Part 9, "The `:integer` function"). It has neither
@@ -46,19 +46,20 @@ pub fn integer_fn(
     requires few { length options.now < 2 ^ 32 }
     ensures { IfOk result (λ called. called ≡ functions.number_called «record».now Integer [] (option_copied operand.entry) options.now) }
 {
-    number_called(alloc, record, NumberFunction::Integer, operand, options)
+    number_called(alloc, record, NumberFunction::Integer, &[], operand, options)
 }
 
-/// What a function over numbers gives.
-fn number_called(
+/// What a function over numbers gives where some options are preset.
+pub fn number_called(
     alloc: Global,
     record: &LocaleRecord,
     function: NumberFunction,
+    presets: &[Pair],
     operand: Option<&Value>,
     options: &Options,
 ) -> Result<Called, AllocError>
     requires few { length options.now < 2 ^ 32 }
-    ensures { IfOk result (λ called. called ≡ functions.number_called «record».now function [] (option_copied operand.entry) options.now) }
+    ensures { IfOk result (λ called. called ≡ functions.number_called «record».now function presets.now (option_copied operand.entry) options.now) }
 {
     let Some((amount, inherited)) = operand_number(operand) else {
         return Ok(Called {
@@ -66,7 +67,7 @@ fn number_called(
             faults: List::new(alloc),
         });
     };
-    let Reading { written, refused } = read_options(alloc, function, options)?;
+    let Reading { written, refused } = read_options(alloc, function, presets, options)?;
     let kept = kept_after(function, &written, &inherited);
     let value = number_value(
         alloc,

@@ -2,6 +2,7 @@
 
 ghost use Rattle.std.specs.Prelude.{◌≡◌};
 ghost use Rattle.mf_meaning.specs.Options as options;
+ghost use Rattle.mf_value.specs.NumberOptions.{option_named as named};
 
 use mf_tree::Identifier;
 use mf_value::{NumberFunction, NumberOption};
@@ -13,7 +14,14 @@ pub fn option_of(function: NumberFunction, identifier: &Identifier) -> Option<Nu
     if identifier.namespace.is_some() {
         return None;
     }
-    match NumberOption::named(identifier.name.value.as_str()) {
+    option_named(function, identifier.name.value.as_str())
+}
+
+/// The option of the function that has this name.
+pub fn option_named(function: NumberFunction, name: &str) -> Option<NumberOption>
+    ensures { result ≡ options.option_at function (named name.now) }
+{
+    match NumberOption::named(name) {
         Some(option) if option.is_of(function) => Some(option),
         _ => None,
     }

@@ -42,7 +42,7 @@ pub fn bad_operand(alloc: Global) -> Called
 }
 
 /// The option text of an operand that is a text or a number.
-fn operand_text(alloc: Global, operand: Option<&Value>) -> Result<Option<Text>, AllocError>
+pub fn operand_text(alloc: Global, operand: Option<&Value>) -> Result<Option<Text>, AllocError>
     ensures { IfOk result (λ text. text ≡ functions.operand_text (option_copied operand.entry)) }
 {
     match operand {
@@ -63,7 +63,7 @@ fn content_text(alloc: Global, content: &Content) -> Result<Option<Text>, AllocE
 }
 
 /// Each option, refused.
-fn refused_options(alloc: Global, options: &Options) -> Result<CallFaults, AllocError>
+pub fn refused_options(alloc: Global, options: &Options) -> Result<CallFaults, AllocError>
     requires few { length options.now < 2 ^ 32 }
     ensures { IfOk result (λ faults. faults ≡ functions.refused_options (λ given. false) options.now) }
 {
@@ -78,7 +78,7 @@ fn refused_options(alloc: Global, options: &Options) -> Result<CallFaults, Alloc
 }
 
 /// A text that selects as one.
-fn text_value(alloc: Global, text: Text) -> Value
+pub fn text_value(alloc: Global, text: Text) -> Value
     ensures { result ≡ functions.text_value text }
 {
     Value {

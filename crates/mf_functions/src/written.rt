@@ -2,11 +2,12 @@
 
 ghost use Rattle.std.specs.Prelude.{◌≡◌};
 ghost use Rattle.std.specs.Option.{is_some, option_or};
-ghost use Rattle.mf_functions.specs.Written.{nothing_written, takes_given, with_given};
+ghost use Rattle.mf_functions.specs.Written.{nothing_written, preset_from, takes_given, takes_option, takes_preset, with_given, with_option, with_preset};
 
 use crate::option_values::{count_named, grouping_named, sign_named, way_named};
-use crate::options::option_of;
+use crate::options::{option_named, option_of};
 use mf_numfmt::{Grouping, Sign};
+use mf_text::Pair;
 use mf_value::{Given, NumberFunction, NumberOption, Selects};
 
 /// The values that the options of a call give, each the first one that is allowed.
@@ -47,16 +48,44 @@ impl Written {
         ensures allowed { result ≡ takes_given function given.now }
         ensures taken { self.new ≡ with_given function self.old given.now }
     {
-        let text = given.value.as_str();
-        let Some(option) = option_of(function, &given.name) else {
+        let option = option_of(function, &given.name);
+        self.take_option(option, given.literal, given.value.as_str())
+    }
+
+    /// Takes up a preset, which counts as given by a literal, and says whether it is allowed.
+    pub fn take_preset(&mut self, function: NumberFunction, preset: &Pair) -> bool
+        ensures allowed { result ≡ takes_preset function preset.now }
+        ensures taken { self.new ≡ with_preset function self.old preset.now }
+    {
+        let option = option_named(function, preset.name.as_str());
+        self.take_option(option, true, preset.value.as_str())
+    }
+
+    /// These, and what presets give that isn't there.
+    pub fn with_presets(self, function: NumberFunction, presets: &[Pair]) -> Written
+        ensures { result ≡ preset_from function self presets.now }
+    {
+        let mut written = self;
+        for preset in presets {
+            written.take_preset(function, preset);
+        }
+        written
+    }
+
+    /// Takes up a value of an option, which a literal gives or a variable, and says whether it is allowed.
+    fn take_option(&mut self, option: Option<NumberOption>, literal: bool, text: &str) -> bool
+        ensures allowed { result ≡ takes_option option literal text.now }
+        ensures taken { self.new ≡ with_option self.old option literal text.now }
+    {
+        let Some(option) = option else {
             return false;
         };
         match option {
             NumberOption::Select => {
-                self.by_variable = self.by_variable || !given.literal;
+                self.by_variable = self.by_variable || !literal;
                 set(
                     &mut self.select,
-                    if given.literal { way_named(text) } else { None },
+                    if literal { way_named(text) } else { None },
                 )
             }
             NumberOption::SignDisplay => set(&mut self.sign, sign_named(text)),

@@ -4,7 +4,9 @@ ghost use Rattle.std.specs.Prelude.{IsTrue};
 ghost use Rattle.std.specs.Option.{option_copied};
 ghost use Rattle.mf_value.specs.Meaning.{IsNoFallback, IsTextOrNumber};
 
+use crate::handlers::Handler;
 use mf_functions::{BuiltIns, select_rank, shown_text};
+use mf_handlers::call_handler;
 use mf_locale::LocaleRecord;
 use mf_text::{Direction, List, Text};
 use mf_tree::{Identifier, Name};
@@ -14,13 +16,18 @@ use mf_value::{
 use std::alloc::{AllocError, Global};
 
 /// The answer to a row, written as a row has it.
-pub fn answer_of(alloc: Global, record: &LocaleRecord, asked: &str) -> Result<String, AllocError> {
+pub fn answer_of(
+    alloc: Global,
+    record: &LocaleRecord,
+    handlers: &[Handler],
+    asked: &str,
+) -> Result<String, AllocError> {
     let (calls, keys) = asked.split_once(" ? ").unwrap_or((asked, ""));
     let mut steps = calls.split(" | ");
     let mut value = operand(alloc, steps.next().unwrap_or(""))?;
     let mut faults = List::new(alloc);
     for step in steps {
-        let called = called(alloc, record, value.as_ref(), step)?;
+        let called = called(alloc, record, handlers, value.as_ref(), step)?;
         value = called.value;
         faults = called.faults;
         if value.is_none() {
@@ -36,13 +43,17 @@ pub fn answer_of(alloc: Global, record: &LocaleRecord, asked: &str) -> Result<St
     Ok(answer)
 }
 
-/// The text that an operand is, or none for `-`.
+/// The text that an operand is, the fallback for `{source}`, or none for `-`.
 fn operand(alloc: Global, text: &str) -> Result<Option<Value>, AllocError> {
     if text == "-" {
         return Ok(None);
     }
+    let content = match text.strip_prefix("{") {
+        Some(source) => Content::Fallback(Text::of(alloc, source)?),
+        None => Content::Text(Text::of(alloc, text)?),
+    };
     Ok(Some(Value {
-        content: Content::Text(Text::of(alloc, text)?),
+        content,
         dir: Direction::Unknown,
         forced: false,
         id: None,
@@ -56,16 +67,23 @@ fn operand(alloc: Global, text: &str) -> Result<Option<Value>, AllocError> {
 fn called(
     alloc: Global,
     record: &LocaleRecord,
+    handlers: &[Handler],
     operand: Option<&Value>,
     step: &str,
 ) -> Result<Called, AllocError> {
     let mut words = step.split(' ');
-    let name = identifier(alloc, words.next().unwrap_or(""))?;
+    let word = words.next().unwrap_or("");
+    let name = identifier(alloc, word)?;
     let mut options = Options::new(alloc);
     for word in words {
         options.push(given(alloc, word)?)?;
     }
-    call(alloc, record, operand, &name, &options)
+    match handlers.iter().find(|handler| handler.name.as_str() == word) {
+        Some(Handler { def, .. }) if options.len() < 1_000_000 => {
+            call_handler(alloc, record, def, operand, &options)
+        }
+        _ => call(alloc, record, operand, &name, &options),
+    }
 }
 
 /// A call of a function that there is.
@@ -108,12 +126,18 @@ fn is_text_or_number(value: &Value) -> bool
     }
 }
 
-/// A name without a namespace.
-fn identifier(alloc: Global, name: &str) -> Result<Identifier, AllocError> {
-    Ok(Identifier {
-        namespace: None,
-        name: Name::new(alloc, Text::of(alloc, name)?)?,
-    })
+/// A name, and before it its namespace, if it has one.
+pub fn identifier(alloc: Global, word: &str) -> Result<Identifier, AllocError> {
+    match word.split_once(':') {
+        Some((namespace, name)) => Ok(Identifier {
+            namespace: Some(Name::new(alloc, Text::of(alloc, namespace)?)?),
+            name: Name::new(alloc, Text::of(alloc, name)?)?,
+        }),
+        None => Ok(Identifier {
+            namespace: None,
+            name: Name::new(alloc, Text::of(alloc, word)?)?,
+        }),
+    }
 }
 
 /// An option, which is given by a variable where its value begins with `$`.

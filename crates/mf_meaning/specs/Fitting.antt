@@ -40,12 +40,16 @@ pub written_fits : {V : Type 0} (function : NumberFunction) (setting : Setting V
 written_fits function setting fits written none each =
     first_fits fits (written_value function setting) written none (λ given. at_fits setting fits (option_of function given.name) given.literal (encode_utf8_all given.value) none each)
 
+pub presets_fit : {V : Type 0} (function : NumberFunction) (setting : Setting V) (fits : Option V → Bool) (presets : List Pair) → fits None ≡ true → ((bytes : List ℕ) → fits (setting.value_of bytes) ≡ true) → fits (first_of (preset_value function setting) presets) ≡ true
+presets_fit function setting fits presets none each =
+    first_fits fits (preset_value function setting) presets none (λ preset. at_fits setting fits (option_at function (option_named (encode_utf8_all preset.name))) true (encode_utf8_all preset.value) none each)
+
 pub effective_fits : {V : Type 0} (function : NumberFunction) (setting : Setting V) (fits : Option V → Bool) (written : List Given) (presets : List Pair) (kept : Kept) → Fits setting fits kept → fits (effective function setting written presets kept) ≡ true
 effective_fits function setting fits written presets kept h =
     or_fits fits (first_of (written_value function setting) written) _
     (written_fits function setting fits written h.none h.text)
     (or_fits fits (first_of (preset_value function setting) presets) _
-    (first_fits fits (preset_value function setting) presets h.none (λ preset. at_fits setting fits (option_at function (option_named (encode_utf8_all preset.name))) true (encode_utf8_all preset.value) h.none h.text))
+    (presets_fit function setting fits presets h.none h.text)
     (if_fits fits (is_of function setting.option) (setting.kept kept) h.none h.kept))
 
 -- a count of digits

@@ -9,4 +9,5 @@ pub mod Kept
 pub mod Shown
 pub mod Functions
 pub mod Ranks
+pub mod Handlers
 pub mod Laws

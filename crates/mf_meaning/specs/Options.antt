@@ -92,20 +92,28 @@ abbrev pub effective : {V : Type 0} → NumberFunction → Setting V → List Gi
 effective function setting written presets kept =
     option_or (first_of (written_value function setting) written) (option_or (first_of (preset_value function setting) presets) (inherited function setting kept))
 
--- whether an option that is written gives some setting a value
-abbrev pub allows : {V : Type 0} → NumberFunction → Given → Setting V → Bool
-allows function given setting = is_some (written_value function setting given)
+-- whether what is given to this option, by a literal or not, gives some setting a value
+abbrev pub allows : {V : Type 0} → Option NumberOption → Bool → List ℕ → Setting V → Bool
+allows option literal text setting = is_some (value_at setting option literal text)
 
+abbrev pub allows_text : Option NumberOption → Bool → List ℕ → Bool
+allows_text option literal text =
+    allows option literal text select
+    || (allows option literal text sign_display
+    || (allows option literal text use_grouping
+    || (allows option literal text minimum_integer_digits
+    || (allows option literal text minimum_fraction_digits
+    || (allows option literal text maximum_fraction_digits
+    || (allows option literal text minimum_significant_digits
+    || allows option literal text maximum_significant_digits))))))
+
+-- an option that is written is allowed
 abbrev pub is_allowed : NumberFunction → Given → Bool
-is_allowed function given =
-    allows function given select
-    || (allows function given sign_display
-    || (allows function given use_grouping
-    || (allows function given minimum_integer_digits
-    || (allows function given minimum_fraction_digits
-    || (allows function given maximum_fraction_digits
-    || (allows function given minimum_significant_digits
-    || allows function given maximum_significant_digits))))))
+is_allowed function given = allows_text (option_of function given.name) given.literal (encode_utf8_all given.value)
+
+-- and a preset
+abbrev pub is_preset_allowed : NumberFunction → Pair → Bool
+is_preset_allowed function preset = allows_text (option_at function (option_named (encode_utf8_all preset.name))) true (encode_utf8_all preset.value)
 
 -- `select` is given by a variable
 abbrev pub is_select : Option NumberOption → Bool

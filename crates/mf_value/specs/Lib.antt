@@ -5,3 +5,5 @@ pub mod Values
 pub mod Meaning
 pub mod NumberOptions
 pub mod BuiltIns
+pub mod Entries
+pub mod Index

@@ -1,5 +1,5 @@
+use crate::entries::Entries;
 use mf_text::{Pairs, Text};
-use std::alloc::AllocError;
 use thiserror::Error;
 
 /// What a handler of an edition does.
@@ -19,7 +19,7 @@ pub enum HandlerDef {
     },
     /// A text for each of some texts, and one for all others where there is a default.
     Table {
-        entries: Pairs,
+        entries: Entries,
         default: Option<Text>,
     },
 }
@@ -39,17 +39,4 @@ pub enum DefError {
     /// The key at this place, from 0, has the normal form of an earlier one.
     #[error("key {index} of the table is there twice")]
     RepeatedKey { index: u32 },
-    #[error("out of memory")]
-    OutOfMemory,
-}
-
-impl From<AllocError> for DefError {
-    ghost use Rattle.std.specs.Prelude.{◌≡◌};
-    ghost use Rattle.mf_value.specs.declared.handler.DefError.TheVariants.{OutOfMemory};
-
-    ghost from_gives = { λ _ e. e ≡ OutOfMemory };
-
-    fn from(_error: AllocError) -> DefError {
-        DefError::OutOfMemory
-    }
 }

@@ -7,6 +7,7 @@
 mod built_in;
 mod called;
 mod content;
+mod entries;
 mod functions;
 mod given;
 mod handler;
@@ -18,6 +19,7 @@ mod value;
 pub use built_in::BuiltIn;
 pub use called::{CallFault, CallFaults, Called, Ranked};
 pub use content::{Content, Selects};
+pub use entries::Entries;
 pub use functions::Functions;
 pub use given::{Given, Options};
 pub use handler::{DefError, HandlerDef};
