@@ -1,5 +1,5 @@
 -- What a call gives, put together.
-use Rattle.std.proofs.Common.{◌≡◌, ℕ, Bool, false, List, [], sym, ap, subst, ◌∙◌}
+use Rattle.std.proofs.Common.{◌≡◌, ℕ, Bool, false, List, sym, ap, subst, ◌∙◌}
 use Rattle.std.specs.Prelude.{Option, Some, option_map}
 use Rattle.mf_decimal.specs.declared.decimal.Decimal.{Decimal}
 use Rattle.mf_locale.specs.declared.record.LocaleRecord.{LocaleRecord}

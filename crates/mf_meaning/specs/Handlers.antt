@@ -1,5 +1,5 @@
 -- What a handler of an edition is, and what a call of it gives; and the functions of an edition with its handlers.
-use Rattle.std.specs.Prelude.{refl, ℕ, ◌+◌, Bool, true, false, not, ◌||◌, List, [], ◌∷◌, ◌++◌, codes, Option, Some, None, option_map, option_and_then, encode_utf8_all, Result, Ok, Err, if◌then◌else◌}
+use Rattle.std.specs.Prelude.{ℕ, Bool, true, false, not, ◌||◌, List, [], ◌++◌, codes, Option, Some, None, option_map, option_and_then, encode_utf8_all, Result, Ok, Err, if◌then◌else◌}
 use Rattle.std.specs.List.{position_from}
 use Rattle.std.specs.Option.{is_some, option_or}
 use Rattle.std.specs.Str.{bytes_eq}

@@ -10,7 +10,6 @@ use Rattle.std.proofs.lemmas.Str.{encodes_same}
 use Rattle.std.specs.BTreeMap.{BTreeMap, get, is_at}
 use Rattle.std.specs.List.{list_any}
 use Rattle.std.specs.Option.{is_some, option_or}
-use Rattle.std.specs.Str.{bytes_eq}
 use Rattle.unicode_normalization.specs.Forms.{nfc}
 use Rattle.mf_text.specs.Order.{byte_cmp}
 use Rattle.mf_text.specs.declared.pair.Pair.{Pair}
