@@ -46,7 +46,14 @@ pub fn integer_fn(
     requires few { length options.now < 2 ^ 32 }
     ensures { IfOk result (λ called. called ≡ functions.number_called «record».now Integer [] (option_copied operand.entry) options.now) }
 {
-    number_called(alloc, record, NumberFunction::Integer, &[], operand, options)
+    number_called(
+        alloc,
+        record,
+        NumberFunction::Integer,
+        &[],
+        operand,
+        options,
+    )
 }
 
 /// What a function over numbers gives where some options are preset.

@@ -78,7 +78,10 @@ fn called(
     for word in words {
         options.push(given(alloc, word)?)?;
     }
-    match handlers.iter().find(|handler| handler.name.as_str() == word) {
+    match handlers
+        .iter()
+        .find(|handler| handler.name.as_str() == word)
+    {
         Some(Handler { def, .. }) if options.len() < 1_000_000 => {
             call_handler(alloc, record, def, operand, &options)
         }
