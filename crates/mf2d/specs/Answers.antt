@@ -13,8 +13,9 @@ use Rattle.mf_edition.specs.declared.change.Entry.{Entry}
 use Rattle.mf_edition.specs.declared.item.Found.{Found}
 use Rattle.mf2d.specs.Flat.{HasFlatParts}
 
--- the edition is older than this one, which the request wants at least; no tag of the chain has the message; the message is none that is formatted
--- yet; or it is formatted, under this tag and to these parts
+-- the edition is older than this one, which the request wants at least; no tag of the chain has the
+-- message; the message is none that is formatted yet; or it is formatted, under this tag and to these
+-- parts
 pub data Answer : Type 0 where
   not_yet : ℕ → Answer
   no_message : Answer
@@ -25,31 +26,38 @@ pub data Answer : Type 0 where
 abbrev pub is_text_size : List Part → Bool
 is_text_size parts = nat_le (length (encode_utf8_all (text_of parts))) (2 ^ 24)
 
--- the answer with these parts, if there are some: a message that isn't flat, a variable without an argument and a longer text
--- aren't built yet
+-- the answer with these parts, if there are some: a message that isn't flat, a variable without an
+-- argument and a longer text aren't built yet
 abbrev pub answer_of : List ℕ → Option (List Part) → Answer
 answer_of tag None = not_built
 answer_of tag (Some parts) = if is_text_size parts then formatted tag parts else not_built
 
--- the answer is that of the parts of the message that was found, each with the isolates that it gets in the direction of the
--- record of the message's tag
-pub record IsAnswerOf (arguments : List (List ℕ × Argued)) (edition : EditionState) (found : Found) (answer : Answer) : Type 0 where
+-- the answer is that of the parts of the message that was found, each with the isolates that it gets
+-- in the direction of the record of the message's tag
+pub record IsAnswerOf (arguments : List (List ℕ × Argued)) (edition : EditionState)
+    (found : Found) (answer : Answer) : Type 0 where
   pub item : Item
   pub there : slice_get edition.items found.index ≡ Some item
   pub parts : Option (List Part)
   pub flat : HasFlatParts item.source arguments parts
-  pub is : answer ≡ answer_of found.tag (option_map (isolated (place_for edition.records found.tag).dir) parts)
+  pub is : answer ≡ answer_of found.tag
+      (option_map (isolated (place_for edition.records found.tag).dir) parts)
 
 -- the answer where a message was found, or wasn't
 abbrev pub IsAnswerFrom : List (List ℕ × Argued) → EditionState → Option Found → Answer → Type 0
 IsAnswerFrom arguments edition None answer = answer ≡ no_message
 IsAnswerFrom arguments edition (Some found) answer = IsAnswerOf arguments edition found answer
 
--- the answer of an edition, which is edition k, to a request for the message of an id, looked up along the chain of a tag
-abbrev pub IsAnswerIn : ℕ → EditionState → List ℕ → List ℕ → List (List ℕ × Argued) → ℕ → Answer → Type 0
+-- the answer of an edition, which is edition k, to a request for the message of an id, looked up along
+-- the chain of a tag
+abbrev pub IsAnswerIn : ℕ → EditionState → List ℕ → List ℕ → List (List ℕ × Argued) → ℕ
+    → Answer → Type 0
 IsAnswerIn k edition tag id arguments since answer =
-    MatchBool (nat_lt k since) (answer ≡ not_yet since) (IsAnswerFrom arguments edition (found_along edition.items id (chain_of tag)) answer)
+    MatchBool (nat_lt k since) (answer ≡ not_yet since)
+    (IsAnswerFrom arguments edition (found_along edition.items id (chain_of tag)) answer)
 
 -- the answer of a log at edition k
-abbrev pub IsAnswer : List Entry → ℕ → List ℕ → List ℕ → List (List ℕ × Argued) → ℕ → Answer → Type 0
-IsAnswer log k tag id arguments since answer = IsAnswerIn k (edition_of log k) tag id arguments since answer
+abbrev pub IsAnswer : List Entry → ℕ → List ℕ → List ℕ → List (List ℕ × Argued) → ℕ
+    → Answer → Type 0
+IsAnswer log k tag id arguments since answer =
+    IsAnswerIn k (edition_of log k) tag id arguments since answer

@@ -15,7 +15,9 @@ use Rattle.mf2d.specs.declared.command.Command.TheVariants.{Lint, Pipe}
 
 -- the command that a word alone spells
 abbrev pub command_named : List ℕ → Option Command
-command_named word = if bytes_eq word (codes "pipe") then Some Pipe else (if bytes_eq word (codes "lint") then Some Lint else None)
+command_named word =
+    if bytes_eq word (codes "pipe") then Some Pipe else
+    (if bytes_eq word (codes "lint") then Some Lint else None)
 
 -- the command that the words after the program's name spell
 abbrev pub command_of : List (List ℕ) → Option Command
@@ -54,20 +56,27 @@ pub record Ends (command : Command) (left left' taken taken' : Option (List ℕ)
   pub input : List ℕ
   pub after : Desk
   pub read : ReadsWhole (cap_of command) left left' input
-  pub answers : AnswersAll (answers_of command) taken taken' empty_desk (lines_to command input) after
+  pub answers : AnswersAll (answers_of command) taken taken'
+      empty_desk (lines_to command input) after
 
--- the whole input was taken, and a front of its lines was answered: every reply but the last begun was written whole
+-- the whole input was taken, and a front of its lines was answered: every reply but the last begun was
+-- written whole
 pub record Stops (command : Command) (left left' taken taken' : Option (List ℕ)) : Type 0 where
   pub input : List ℕ
   pub after : Desk
   pub read : ReadsWhole (cap_of command) left left' input
-  pub answers : AnswersFront (answers_of command) taken taken' empty_desk (lines_to command input) after
+  pub answers : AnswersFront (answers_of command) taken taken'
+      empty_desk (lines_to command input) after
 
--- what a command has done, by the status that it ends with; nothing was read, or nothing was written, where it says so
-abbrev pub Done : Command → Status → (Unread Unwritten : Type 0) → (left left' taken taken' : Option (List ℕ)) → Type 0
+-- what a command has done, by the status that it ends with; nothing was read, or nothing was written,
+-- where it says so
+abbrev pub Done : Command → Status → (Unread Unwritten : Type 0)
+    → (left left' taken taken' : Option (List ℕ)) → Type 0
 Done command Ended Unread Unwritten left left' taken taken' = Ends command left left' taken taken'
-Done command WriteFault Unread Unwritten left left' taken taken' = Stops command left left' taken taken'
-Done command ReadFault Unread Unwritten left left' taken taken' = ConsumesBelow (cap_of command) left left' × Unwritten
+Done command WriteFault Unread Unwritten left left' taken taken' =
+    Stops command left left' taken taken'
+Done command ReadFault Unread Unwritten left left' taken taken' =
+    ConsumesBelow (cap_of command) left left' × Unwritten
 Done command InputFull Unread Unwritten left left' taken taken' =
     (full_status command ≡ InputFull) × ConsumesJust (cap_of command) left left' × Unwritten
 Done command LineTooLong Unread Unwritten left left' taken taken' =
@@ -77,6 +86,8 @@ Done command Usage Unread Unwritten left left' taken taken' = ⊥
 Done command ListenFault Unread Unwritten left left' taken taken' = ⊥
 
 -- what came of the words: words that spell no command are `Usage`, and nothing else is
-abbrev pub Outcome : Option Command → Status → (Unread Unwritten : Type 0) → (left left' taken taken' : Option (List ℕ)) → Type 0
+abbrev pub Outcome : Option Command → Status → (Unread Unwritten : Type 0)
+    → (left left' taken taken' : Option (List ℕ)) → Type 0
 Outcome None status Unread Unwritten left left' taken taken' = (status ≡ Usage) × Unread × Unwritten
-Outcome (Some command) status Unread Unwritten left left' taken taken' = Done command status Unread Unwritten left left' taken taken'
+Outcome (Some command) status Unread Unwritten left left' taken taken' =
+    Done command status Unread Unwritten left left' taken taken'

@@ -36,12 +36,15 @@ added log (Ok (Lint source)) = []
 added log (Err refusal) = []
 
 -- what is asked for has its reply at the newest edition, and the log gains what is published
-pub record Serves (desk : Desk) (asked : Result Request Reply) (line : List ℕ) (after : Desk) : Type 0 where
+pub record Serves (desk : Desk) (asked : Result Request Reply)
+    (line : List ℕ) (after : Desk) : Type 0 where
   pub reply : Reply
   pub due : IsReply desk.log (length desk.log) asked reply
   pub written : line ≡ reply_line reply
   pub log : after.log ≡ desk.log ++ added desk.log asked
 
--- the line has the defined reply; or the memory line, which comes where there was no memory for it, and then the log stays
+-- the line has the defined reply; or the memory line, which comes where there was no memory for it, and
+-- then the log stays
 abbrev pub Answered : Desk → List ℕ → List ℕ → Desk → Type 0
-Answered desk line reply after = ((reply ≡ memory_line) × (after.log ≡ desk.log)) ⊎ Serves desk (line_request line) reply after
+Answered desk line reply after =
+    ((reply ≡ memory_line) × (after.log ≡ desk.log)) ⊎ Serves desk (line_request line) reply after

@@ -10,9 +10,11 @@ use Rattle.mf_tree.specs.declared.expression.Operand.{Operand}
 use Rattle.mf_tree.specs.declared.expression.Operand.TheVariants as operand
 use Rattle.mf_tree.specs.declared.expression.Call.{Call}
 use Rattle.mf_tree.specs.declared.expression.Attribute.{Attribute}
+use Rattle.mf_tree.specs.declared.expression.Expression.{Expression}
 use Rattle.mf_tree.specs.declared.pattern.Piece.{Piece}
 use Rattle.mf_tree.specs.declared.pattern.Piece.TheVariants as piece
 use Rattle.mf_tree.specs.declared.message.Declaration.{Declaration}
+use Rattle.mf_tree.specs.declared.message.Message.{Message}
 use Rattle.mf_tree.specs.declared.message.Body.{Body}
 use Rattle.mf_tree.specs.declared.message.Body.TheVariants as body
 use Rattle.mf_parts.specs.declared.part.Part.{Part}
@@ -36,17 +38,24 @@ lone_variable operand.Absent function attributes = None
 abbrev pub variable_part : List (List ℕ × Argued) → Name → Option Part
 variable_part arguments name = option_and_then argument_part (argument_named arguments name.value)
 
+-- the part of an expression, if it is a lone variable that has an argument
+abbrev pub expression_part : List (List ℕ × Argued) → Expression → Option Part
+expression_part arguments expression =
+    option_and_then (variable_part arguments)
+    (lone_variable expression.operand expression.function expression.attributes)
+
 -- the part of a piece, if it is a text or a lone variable that has an argument
 abbrev pub piece_part : List (List ℕ × Argued) → Piece → Option Part
 piece_part arguments (piece.Text text) = Some (part.Text text)
-piece_part arguments (piece.Expression expression) = option_and_then (variable_part arguments) (lone_variable expression.operand expression.function expression.attributes)
+piece_part arguments (piece.Expression expression) = expression_part arguments expression
 piece_part arguments (piece.Markup markup) = None
 
 -- the parts of pieces
 abbrev pub parts_of : List (List ℕ × Argued) → List Piece → Option (List Part)
 parts_of arguments [] = Some []
 parts_of arguments (piece ∷ pieces) =
-    option_and_then (λ part. option_map (λ parts. part ∷ parts) (parts_of arguments pieces)) (piece_part arguments piece)
+    option_and_then (λ part. option_map (λ parts. part ∷ parts) (parts_of arguments pieces))
+    (piece_part arguments piece)
 
 -- the pattern of a message that has no declarations and no matcher
 abbrev pub lone_pattern : List Declaration → Body → Option (List Piece)
@@ -54,13 +63,19 @@ lone_pattern [] (body.Pattern pattern) = Some pattern
 lone_pattern (declaration ∷ declarations) (body.Pattern pattern) = None
 lone_pattern declarations (body.Match selectors variants) = None
 
+-- the parts of a message, if it is flat and each of its variables has an argument
+abbrev pub message_parts : List (List ℕ × Argued) → Message → Option (List Part)
+message_parts arguments message =
+    option_and_then (parts_of arguments) (lone_pattern message.declarations message.body)
+
 -- the parts of what a source compiles to, where that is a flat message
 abbrev pub flat_parts : List (List ℕ × Argued) → Compilation → Option (List Part)
-flat_parts arguments (Valid message) = option_and_then (parts_of arguments) (lone_pattern message.declarations message.body)
+flat_parts arguments (Valid message) = message_parts arguments message
 flat_parts arguments (Invalid faults) = None
 
 -- the source compiles to something that has these parts
-pub record HasFlatParts (source : List ℕ) (arguments : List (List ℕ × Argued)) (parts : Option (List Part)) : Type 0 where
+pub record HasFlatParts (source : List ℕ) (arguments : List (List ℕ × Argued))
+    (parts : Option (List Part)) : Type 0 where
   pub compilation : Compilation
   pub compiled : Compiled source compilation
   pub is : parts ≡ flat_parts arguments compilation

@@ -10,7 +10,9 @@ use Rattle.mf2d.specs.Served.{written, Served}
 
 -- a request has one reply at an edition of a log
 abbrev pub RequestsHaveOneReply : Type 0
-RequestsHaveOneReply = (log : List Entry) (k : ℕ) (request : Request) (one other : Reply) → IsReplyAt log k request one → IsReplyAt log k request other → one ≡ other
+RequestsHaveOneReply =
+    (log : List Entry) (k : ℕ) (request : Request) (one other : Reply)
+    → IsReplyAt log k request one → IsReplyAt log k request other → one ≡ other
 
 -- no line found no memory
 abbrev pub HasNoMemoryLine : List (List ℕ) → Type 0
@@ -21,5 +23,6 @@ HasNoMemoryLine (reply ∷ replies) = (reply ≢ memory_line) × HasNoMemoryLine
 abbrev pub IsFunctionOfInput : Type 0
 IsFunctionOfInput =
     (desk : Desk) (lines replies others : List (List ℕ)) (after other : Desk)
-    → Served Answered desk lines replies after → Served Answered desk lines others other → HasNoMemoryLine replies → HasNoMemoryLine others
+    → Served Answered desk lines replies after → Served Answered desk lines others other
+    → HasNoMemoryLine replies → HasNoMemoryLine others
     → (written replies ≡ written others) × (after ≡ other)

@@ -18,7 +18,8 @@ pub record LintsSource (source line : List ℕ) : Type 0 where
 
 -- the line for bytes: the reply of the source that they are, if they are UTF-8
 abbrev pub LintsInput : List ℕ → List ℕ → Type 0
-LintsInput input line = MatchBool (is_utf8 input) (LintsSource (chars input) line) (line ≡ bad_utf8_line)
+LintsInput input line =
+    MatchBool (is_utf8 input) (LintsSource (chars input) line) (line ≡ bad_utf8_line)
 
 -- the same, or the memory line, which comes where there was no memory for it
 abbrev pub LintAnswered : List ℕ → List ℕ → Type 0

@@ -52,8 +52,10 @@ pub record IsLintReply (source : List ℕ) (reply : Reply) : Type 0 where
 
 -- the reply to a request at edition k of a log
 abbrev pub IsReplyAt : List Entry → ℕ → Request → Reply → Type 0
-IsReplyAt log k (Publish change) reply = reply ≡ publication_reply k (op_of change) (refusal_of (take k log) change)
-IsReplyAt log k (Format tag id arguments since) reply = IsFormatReply (IsAnswer log k tag id arguments since) k reply
+IsReplyAt log k (Publish change) reply =
+    reply ≡ publication_reply k (op_of change) (refusal_of (take k log) change)
+IsReplyAt log k (Format tag id arguments since) reply =
+    IsFormatReply (IsAnswer log k tag id arguments since) k reply
 IsReplyAt log k (Lint source) reply = IsLintReply source reply
 
 -- the reply at edition k to what a line asks for: a request, or what the wire refuses it by

@@ -13,7 +13,8 @@ module _ {State : Type 0} (Answers : Answering State) where
   Served state [] [] after = after ≡ state
   Served state [] (reply ∷ replies) after = ⊥
   Served state (line ∷ lines) [] after = ⊥
-  Served state (line ∷ lines) (reply ∷ replies) after = (between : State) × Answers state line reply between × Served between lines replies after
+  Served state (line ∷ lines) (reply ∷ replies) after =
+      (between : State) × Answers state line reply between × Served between lines replies after
 
 -- a reply with its line feed
 abbrev pub ended : List ℕ → List ℕ

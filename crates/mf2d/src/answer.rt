@@ -1,7 +1,8 @@
-ghost use Rattle.std.specs.Prelude.{◌≡◌, ◌<◌, IfOk, Some, chars, length, option_and_then};
+ghost use Rattle.std.specs.Prelude.{◌≡◌, ◌<◌, IfOk, Some, chars, length};
 ghost use Rattle.std.specs.Option.{option_copied};
 ghost use Rattle.mf2d.specs.Answers.{answer_of, IsAnswerIn, IsAnswerOf};
-ghost use Rattle.mf2d.specs.Flat.{HasFlatParts, lone_pattern, lone_variable, parts_of, piece_part, variable_part};
+ghost use Rattle.mf2d.specs.Flat.{expression_part, lone_pattern, lone_variable, message_parts, parts_of};
+ghost use Rattle.mf2d.specs.Flat.{piece_part, variable_part, HasFlatParts};
 ghost use Rattle.mf2d.specs.Replies.{answer_reply, IsFormatReply};
 
 use mf_edition::{Edition, Found};
@@ -53,7 +54,8 @@ fn format(
     arguments: &Arguments,
 ) -> Result<Reply, AllocError>
     requires { found.index < length edition.now.items }
-    ensures { IfOk result (λ reply. IsFormatReply (IsAnswerOf arguments.now edition.now found) edition.now.number reply) }
+    ensures { IfOk result (λ reply. IsFormatReply
+        (IsAnswerOf arguments.now edition.now found) edition.now.number reply) }
 {
     let Some(item) = edition.item(found.index) else {
         unreachable!();
@@ -102,7 +104,7 @@ fn message_parts(
     message: Message,
     arguments: &Arguments,
 ) -> Result<Option<Parts>, AllocError>
-    ensures { IfOk result (λ parts. parts ≡ option_and_then (parts_of arguments.now) (lone_pattern message.declarations message.body)) }
+    ensures { IfOk result (λ parts. parts ≡ message_parts arguments.now message) }
 {
     match lone_pattern(message) {
         Some(pattern) => parts(alloc, pattern, arguments),
@@ -151,8 +153,7 @@ fn expression_part(
     expression: &Expression,
     arguments: &Arguments,
 ) -> Result<Option<Part>, AllocError>
-    ensures { IfOk result (λ part. part
-        ≡ option_and_then (variable_part arguments.now) (lone_variable expression.now.operand expression.now.function expression.now.attributes)) }
+    ensures { IfOk result (λ part. part ≡ expression_part arguments.now expression.now) }
 {
     match lone_variable(expression) {
         Some(name) => variable_part(name, arguments),
@@ -162,7 +163,8 @@ fn expression_part(
 
 /// The variable that stands alone in its braces.
 fn lone_variable(expression: &Expression) -> Option<&Name>
-    ensures { option_copied result ≡ lone_variable expression.now.operand expression.now.function expression.now.attributes }
+    ensures { option_copied result ≡ lone_variable
+        expression.now.operand expression.now.function expression.now.attributes }
 {
     match (&expression.operand, &expression.function) {
         (Operand::Variable(name), None) if expression.attributes.is_empty() => Some(name),

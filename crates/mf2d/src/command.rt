@@ -53,12 +53,15 @@ fn command_named(word: &str) -> Option<Command>
 /// Any other words are `Usage`.
 pub fn top<S: Source, K: Sink>(alloc: Global, words: &Texts, source: &mut S, sink: &mut K) -> Status
     // What was taken and written, by the words and the status.
-    ensures outcome { Outcome (command_of words.now) result (source.new ≡ source.old) (sink.new ≡ sink.old)
+    ensures outcome { Outcome (command_of words.now) result
+        (source.new ≡ source.old) (sink.new ≡ sink.old)
         (S.left source.old) (S.left source.new) (K.taken sink.old) (K.taken sink.new) }
 
     // A fault comes only where its object's count rose, and no count falls.
-    ensures read_fault { result ≡ Status.ReadFault → Rose (S.faults source.old) (S.faults source.new) }
-    ensures write_fault { result ≡ Status.WriteFault → Rose (K.faults sink.old) (K.faults sink.new) }
+    ensures read_fault { result ≡ Status.ReadFault
+        → Rose (S.faults source.old) (S.faults source.new) }
+    ensures write_fault { result ≡ Status.WriteFault
+        → Rose (K.faults sink.old) (K.faults sink.new) }
     ensures source_count { S.faults source.old ≤ S.faults source.new }
     ensures sink_count { K.faults sink.old ≤ K.faults sink.new }
 {

@@ -66,7 +66,8 @@ impl Desk {
     /// Publishes a change, and gives the reply line, or gives that of why it is refused. Room for the
     /// line of an accepted one is made first, so that nothing has changed where there is no memory.
     fn publish(&mut self, alloc: Global, change: Change) -> Result<Text, AllocError>
-        ensures ok { IfOk result (λ line. Serves self.old (Ok (Request.Publish change)) (encode_utf8_all line) self.new) }
+        ensures ok { IfOk result (λ line.
+            Serves self.old (Ok (Request.Publish change)) (encode_utf8_all line) self.new) }
         ensures err { OnErr result (self.new ≡ self.old) }
     {
         let edition = self.publications.log().len() + 1;
@@ -100,7 +101,8 @@ impl Desk {
 
 /// The reply to a publication that isn't made.
 fn refused(error: PublishError) -> Result<Reply, AllocError>
-    ensures reply { IfOk result (λ reply. (refusal : Refusal) → error ≡ refused refusal → reply ≡ refusal_reply refusal) }
+    ensures reply { IfOk result (λ reply.
+        (refusal : Refusal) → error ≡ refused refusal → reply ≡ refusal_reply refusal) }
     ensures cause { IfOk result (λ _. error ≢ PublishError.OutOfMemory) }
 {
     match error {
@@ -112,7 +114,8 @@ fn refused(error: PublishError) -> Result<Reply, AllocError>
 
 /// The reply to a line that makes no request.
 fn refusal(error: WireError) -> Result<Reply, AllocError>
-    ensures { IfOk result (λ reply. (asked : Result Request Reply) → refuses.IsDue asked error → asked ≡ Err reply) }
+    ensures { IfOk result (λ reply.
+        (asked : Result Request Reply) → refuses.IsDue asked error → asked ≡ Err reply) }
 {
     match error {
         WireError::BadJson => Ok(Reply::BadJson),

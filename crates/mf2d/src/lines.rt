@@ -21,7 +21,8 @@ pub(crate) trait Clerk {
     /// The reply line to a line, without its line feed. Where there is no memory for it, the line is answered by
     /// the memory line.
     fn answer(&mut self, alloc: Global, line: &[u8]) -> Result<Text, AllocError>
-        ensures ok { IfOk result (λ reply. answers self.old line.now (encode_utf8_all reply) self.new) }
+        ensures ok { IfOk result (λ reply.
+            answers self.old line.now (encode_utf8_all reply) self.new) }
         ensures err { OnErr result (answers self.old line.now memory_line self.new) };
 }
 
@@ -33,9 +34,11 @@ pub(crate) fn answer_lines<C: Clerk, K: Sink>(
     sink: &mut K,
 ) -> Result<(), Failed>
     ensures all { OnOk result
-        (AnswersAll C.answers (K.taken sink.old) (K.taken sink.new) clerk.old (lines_of input.now) clerk.new) }
+        (AnswersAll C.answers (K.taken sink.old) (K.taken sink.new)
+        clerk.old (lines_of input.now) clerk.new) }
     ensures front { OnErr result
-        (AnswersFront C.answers (K.taken sink.old) (K.taken sink.new) clerk.old (lines_of input.now) clerk.new) }
+        (AnswersFront C.answers (K.taken sink.old) (K.taken sink.new)
+        clerk.old (lines_of input.now) clerk.new) }
     ensures cause { HasCause (K.faults sink.old) (K.faults sink.new) result }
 {
     let mut rest = input;
@@ -55,9 +58,11 @@ pub(crate) fn answer_line<C: Clerk, K: Sink>(
     sink: &mut K,
 ) -> Result<(), Failed>
     ensures whole { OnOk result
-        (RepliesWhole C.answers (K.taken sink.old) (K.taken sink.new) clerk.old line.now clerk.new) }
+        (RepliesWhole C.answers (K.taken sink.old) (K.taken sink.new)
+        clerk.old line.now clerk.new) }
     ensures part { OnErr result
-        (RepliesInPart C.answers (K.taken sink.old) (K.taken sink.new) clerk.old line.now clerk.new) }
+        (RepliesInPart C.answers (K.taken sink.old) (K.taken sink.new)
+        clerk.old line.now clerk.new) }
     ensures cause { HasCause (K.faults sink.old) (K.faults sink.new) result }
 {
     match clerk.answer(alloc, line) {
@@ -69,7 +74,8 @@ pub(crate) fn answer_line<C: Clerk, K: Sink>(
 /// Writes a reply with its line feed.
 fn send_line<K: Sink>(sink: &mut K, reply: &[u8]) -> Result<(), Failed>
     ensures sent { OnOk result (Appends (K.taken sink.old) (K.taken sink.new) (ended reply.now)) }
-    ensures stopped { OnErr result (TakesFront (K.taken sink.old) (K.taken sink.new) (ended reply.now)) }
+    ensures stopped { OnErr result
+        (TakesFront (K.taken sink.old) (K.taken sink.new) (ended reply.now)) }
     ensures cause { HasCause (K.faults sink.old) (K.faults sink.new) result }
 {
     send(sink, reply)?;

@@ -25,8 +25,10 @@ const BAD_UTF8_LINE: &str = r#"{"error":"bad-utf8"}"#;
 pub fn lint<S: Source, K: Sink>(alloc: Global, source: &mut S, sink: &mut K) -> Status
     ensures done { Done Command.Lint result (source.new ≡ source.old) (sink.new ≡ sink.old)
         (S.left source.old) (S.left source.new) (K.taken sink.old) (K.taken sink.new) }
-    ensures read_fault { result ≡ Status.ReadFault → Rose (S.faults source.old) (S.faults source.new) }
-    ensures write_fault { result ≡ Status.WriteFault → Rose (K.faults sink.old) (K.faults sink.new) }
+    ensures read_fault { result ≡ Status.ReadFault
+        → Rose (S.faults source.old) (S.faults source.new) }
+    ensures write_fault { result ≡ Status.WriteFault
+        → Rose (K.faults sink.old) (K.faults sink.new) }
     ensures source_count { S.faults source.old ≤ S.faults source.new }
     ensures sink_count { K.faults sink.old ≤ K.faults sink.new }
 {
@@ -44,9 +46,11 @@ pub fn lint<S: Source, K: Sink>(alloc: Global, source: &mut S, sink: &mut K) -> 
 /// Writes the line of an input.
 fn answer_input<K: Sink>(alloc: Global, input: &[u8], sink: &mut K) -> Result<(), Failed>
     ensures all { OnOk result
-        (AnswersAll (answers_of Command.Lint) (K.taken sink.old) (K.taken sink.new) empty_desk (lines_to Command.Lint input.now) empty_desk) }
+        (AnswersAll (answers_of Command.Lint) (K.taken sink.old) (K.taken sink.new)
+        empty_desk (lines_to Command.Lint input.now) empty_desk) }
     ensures front { OnErr result
-        (AnswersFront (answers_of Command.Lint) (K.taken sink.old) (K.taken sink.new) empty_desk (lines_to Command.Lint input.now) empty_desk) }
+        (AnswersFront (answers_of Command.Lint) (K.taken sink.old) (K.taken sink.new)
+        empty_desk (lines_to Command.Lint input.now) empty_desk) }
     ensures cause { HasCause (K.faults sink.old) (K.faults sink.new) result }
 {
     let mut linter = Linter;

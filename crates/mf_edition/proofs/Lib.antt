@@ -7,7 +7,7 @@ pub mod Growth
 pub mod EditionLaws
 pub mod InPlace
 pub mod RecordChain
-pub mod RecordSearch
+pub mod RecordMap
 pub mod Sized
 pub mod Same
 pub mod SameRecords

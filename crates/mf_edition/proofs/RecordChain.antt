@@ -5,8 +5,7 @@ use Rattle.std.specs.Cmp.Lexicographic.{pointwise, bytes_decides}
 use Rattle.std.specs.Option.{option_copied, option_or, unwrap_or}
 use Rattle.mf_locale.specs.Chain.{ending_in_und, und}
 use Rattle.mf_locale.specs.declared.record.LocaleRecord.{LocaleRecord}
-use Rattle.mf_edition.specs.Records.{first_record, record_of}
-use Rattle.mf_edition.specs.declared.record.TaggedRecord.{TaggedRecord}
+use Rattle.mf_edition.specs.Records.{first_record, record_of, TaggedRecord}
 
 -- what comes first, of what is left and what was left out
 pub option_or_none : {X : Type 0} (o : Option X) → option_or o None ≡ o

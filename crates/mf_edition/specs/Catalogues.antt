@@ -11,6 +11,7 @@ use Rattle.std.specs.declared.sync.Arc.{Arc}
 use Rattle.mf_text.specs.Order.{byte_cmp}
 use Rattle.mf_text.specs.declared.pair.Pair.{Pair}
 use Rattle.mf_text.specs.Ordered.{put_ordered, LacksAt, StandsAt}
+use Rattle.mf_text.specs.Pairs.{insert_pair}
 use Rattle.mf_edition.specs.Items.{Item, item_of, message_of}
 
 -- a publication of messages: their tag, and the messages in the byte order of their ids
@@ -18,17 +19,26 @@ pub record Catalogue : Type 0 where
   pub tag : List ℕ
   pub messages : List Pair
 
+-- a publication with one more message: of two with one id the later one counts
+abbrev pub with_message : Catalogue → Pair → Catalogue
+with_message catalogue message =
+    record catalogue { messages = insert_pair message catalogue.messages }
+
 -- what callers see of a tag and of items
 abbrev pub catalogue_of : List ℕ → List Item → Catalogue
 catalogue_of tag items = record { tag = tag; messages = map message_of items }
 
 -- two messages have the same id and source
 abbrev pub message_eq : Pair → Pair → Bool
-message_eq = eq_of_both (on (λ message. message.name) (pointwise ◌==◌)) (on (λ message. message.value) (pointwise ◌==◌))
+message_eq =
+    eq_of_both (on (λ message. message.name) (pointwise ◌==◌))
+    (on (λ message. message.value) (pointwise ◌==◌))
 
 -- two publications have the same tag and the same messages
 abbrev pub catalogue_eq : Catalogue → Catalogue → Bool
-catalogue_eq = eq_of_both (on (λ catalogue. catalogue.tag) (pointwise ◌==◌)) (on (λ catalogue. catalogue.messages) (pointwise message_eq))
+catalogue_eq =
+    eq_of_both (on (λ catalogue. catalogue.tag) (pointwise ◌==◌))
+    (on (λ catalogue. catalogue.messages) (pointwise message_eq))
 
 pub message_eq_equiv : IsEquivalence message_eq
 message_eq_equiv =

@@ -6,9 +6,9 @@ use Rattle.std.specs.Option.{option_or}
 use Rattle.mf_edition.specs.declared.change.Change.{Change}
 use Rattle.mf_edition.specs.declared.change.Change.TheVariants.{Catalogue, Locale}
 use Rattle.mf_edition.specs.declared.change.Entry.{Entry}
+use Rattle.mf_edition.specs.Catalogues.{Catalogue as Known}
 use Rattle.mf_edition.specs.Items.{Item, item_of}
-use Rattle.mf_edition.specs.Records.{put_record}
-use Rattle.mf_edition.specs.declared.record.TaggedRecord.{TaggedRecord}
+use Rattle.mf_edition.specs.Records.{put_record, TaggedRecord}
 use Rattle.mf_edition.specs.declared.item.Found.{Found}
 
 -- what an edition is: its number, its messages in the order of their indices, and the records of tags
@@ -31,9 +31,13 @@ abbrev pub put_all : List Item → List Item → List Item
 put_all items [] = items
 put_all items (new ∷ more) = put_all (put items new) more
 
+-- the messages after a publication of messages
+abbrev pub published : List Item → Known → List Item
+published items catalogue = put_all items (map (item_of catalogue.tag) catalogue.messages)
+
 -- the messages after a change
 abbrev pub changed : List Item → Change → List Item
-changed items (Catalogue catalogue) = put_all items (map (item_of catalogue.tag) catalogue.messages)
+changed items (Catalogue catalogue) = published items catalogue
 changed items (Locale tag place size) = items
 
 -- the records after a change
@@ -52,7 +56,11 @@ empty_edition = record { number = 0; items = []; records = [] }
 -- the edition after one more change
 abbrev pub next_edition : EditionState → Change → EditionState
 next_edition edition change =
-    record { number = edition.number + 1; items = changed edition.items change; records = recorded edition.records change }
+    record {
+      number = edition.number + 1;
+      items = changed edition.items change;
+      records = recorded edition.records change;
+    }
 
 -- the edition after entries
 abbrev pub edition_after : EditionState → List Entry → EditionState
@@ -71,7 +79,9 @@ newest_edition log = edition_after empty_edition log
 abbrev pub found_along : List Item → List ℕ → List (List ℕ) → Option Found
 found_along items id [] = None
 found_along items id (tag ∷ tags) =
-    option_or (option_map (λ index. record { tag = tag; index = index }) (position (is_named tag id) items)) (found_along items id tags)
+    option_or
+    (option_map (λ index. record { tag = tag; index = index }) (position (is_named tag id) items))
+    (found_along items id tags)
 
 -- there are numbers for the edition that a change makes and for each of its messages
 pub record HasRoom (edition : EditionState) (change : Change) : Type 0 where
@@ -100,12 +110,17 @@ NewestIsLast = (log : List Entry) → edition_of log (length log) ≡ newest_edi
 
 -- the newest edition of a log with one more entry is the one before it, changed by that entry
 abbrev pub EditionsFollow : Type 0
-EditionsFollow = (log : List Entry) (entry : Entry) → newest_edition (log ++ entry ∷ []) ≡ next_edition (newest_edition log) entry.change
+EditionsFollow =
+    (log : List Entry) (entry : Entry)
+    → newest_edition (log ++ entry ∷ []) ≡ next_edition (newest_edition log) entry.change
 
 -- an edition of a log is that of each longer log
 abbrev pub EditionsStay : Type 0
-EditionsStay = (log more : List Entry) (k : ℕ) → k ≤ length log → edition_of (log ++ more) k ≡ edition_of log k
+EditionsStay =
+    (log more : List Entry) (k : ℕ) → k ≤ length log → edition_of (log ++ more) k ≡ edition_of log k
 
 -- a change adds at most as many messages as it has
 abbrev pub ChangesAreBounded : Type 0
-ChangesAreBounded = (items : List Item) (change : Change) → length (changed items change) ≤ length items + message_count change
+ChangesAreBounded =
+    (items : List Item) (change : Change)
+    → length (changed items change) ≤ length items + message_count change

@@ -1,20 +1,18 @@
--- For private clauses: what an edition keeps, which is its messages, the order in which they are searched for, the records
--- of tags, and the root record.
+-- For private clauses: what an edition keeps of its messages, and the order in which they are searched for.
 use Rattle.std.specs.Prelude.{◌<◌, ◌^◌, ℕ, List, length}
 use Rattle.std.specs.declared.alloc.Global.{Global}
 use Rattle.std.specs.declared.sync.Arc.{Arc}
 use Rattle.mf_edition.specs.Items.{Item, item_values}
 use Rattle.mf_edition.specs.Edition.{EditionState}
 use Rattle.mf_edition.specs.Order.{names_in, IsOrder}
-use Rattle.mf_edition.specs.RecordOrder.{AreInTagOrder}
-use Rattle.mf_edition.specs.declared.record.TaggedRecord.{TaggedRecord}
+use Rattle.mf_edition.specs.Records.{TaggedRecord}
 
 -- what callers see
 abbrev pub state_of : ℕ → List (Arc Item Global) → List TaggedRecord → EditionState
-state_of number items records = record { number = number; items = item_values items; records = records }
+state_of number items records =
+    record { number = number; items = item_values items; records = records }
 
--- there are numbers for the messages, each is in the order, and the records are in that of their tags
-pub record IsKept (items : List (Arc Item Global)) (order : List ℕ) (records : List TaggedRecord) : Type 0 where
+-- there are numbers for the messages, and each is in the order
+pub record IsKept (items : List (Arc Item Global)) (order : List ℕ) : Type 0 where
   pub few : length items < 2 ^ 32
   pub ordered : IsOrder (names_in items) order
-  pub ascending : AreInTagOrder records

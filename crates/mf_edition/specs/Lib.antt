@@ -1,11 +1,11 @@
 -- Read in this order: Items and Catalogues, the messages of a publication; Records, the locale records of an edition; Edition,
--- the fold of a log; Sizes, what changes count for and which are refused; Equality. Order, RecordOrder and Kept are for
+-- the fold of a log; Sizes, what changes count for and which are refused; Equality. Order, RecordMap and Kept are for
 -- private clauses.
 pub mod Items
 pub mod Catalogues
 pub mod Edition
 pub mod Records
-pub mod RecordOrder
+pub mod RecordMap
 pub mod Sizes
 pub mod Order
 pub mod Kept

@@ -40,7 +40,8 @@ index_cmp names name index = found_cmp name (slice_get names index)
 -- the order has each index once, and the names ascend
 pub record IsOrder (names : List Name) (order : List ℕ) : Type 0 where
   pub below : (k : ℕ) → k < length order → slice_index order k < length names
-  pub ascending : (i j : ℕ) → i < j → j < length order → name_cmp (name_at names (slice_index order i)) (name_at names (slice_index order j)) ≡ Less
+  pub ascending : (i j : ℕ) → i < j → j < length order
+      → name_cmp (name_at names (slice_index order i)) (name_at names (slice_index order j)) ≡ Less
   pub complete : (k : ℕ) → k < length names → (i : ℕ) × (i < length order) × (slice_index order i ≡ k)
 
 -- the name of the message whose index stands there in the order is this one
@@ -52,4 +53,5 @@ pub record IsFound (names : List Name) (order : List ℕ) (name : Name) (at : �
 pub record IsGap (names : List Name) (order : List ℕ) (name : Name) (at : ℕ) : Type 0 where
   pub within : at ≤ length order
   pub before : (k : ℕ) → k < at → name_cmp (name_at names (slice_index order k)) name ≡ Less
-  pub after : (k : ℕ) → at ≤ k → k < length order → name_cmp (name_at names (slice_index order k)) name ≡ Greater
+  pub after : (k : ℕ) → at ≤ k → k < length order
+      → name_cmp (name_at names (slice_index order k)) name ≡ Greater

@@ -8,7 +8,11 @@ use Rattle.mf_locale.specs.Chain.{chain_of}
 use Rattle.mf_locale.specs.Records.{root_record}
 use Rattle.mf_locale.specs.declared.record.LocaleRecord.{LocaleRecord}
 use Rattle.mf_text.specs.Ordered.{put_ordered}
-use Rattle.mf_edition.specs.declared.record.TaggedRecord.{TaggedRecord}
+
+-- the locale record of a tag
+pub record TaggedRecord : Type 0 where
+  pub tag : List ℕ
+  pub shared : LocaleRecord
 
 -- tags are compared by their characters, which are ASCII and so their bytes
 abbrev pub tag_cmp : List ℕ → List ℕ → Ordering
@@ -25,7 +29,8 @@ is_for tag tagged = pointwise ◌==◌ tagged.tag tag
 -- the record of a tag, if it has one
 abbrev pub record_of : List TaggedRecord → List ℕ → Option LocaleRecord
 record_of [] tag = None
-record_of (tagged ∷ records) tag = if is_for tag tagged then Some tagged.shared else record_of records tag
+record_of (tagged ∷ records) tag =
+    if is_for tag tagged then Some tagged.shared else record_of records tag
 
 -- the record of the first of these tags that has one
 abbrev pub first_record : List TaggedRecord → List (List ℕ) → Option LocaleRecord
@@ -40,4 +45,5 @@ place_for records tag = unwrap_or (first_record records (chain_of tag)) root_rec
 abbrev pub RecordsAreByTag : Type 0
 RecordsAreByTag =
     (records : List TaggedRecord) (new : TaggedRecord) (tag : List ℕ)
-    → record_of (put_record records new) tag ≡ if is_for tag new then Some new.shared else record_of records tag
+    → record_of (put_record records new) tag
+    ≡ if is_for tag new then Some new.shared else record_of records tag

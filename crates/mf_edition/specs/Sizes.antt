@@ -1,6 +1,7 @@
 -- The bytes that changes count for, and which changes a log accepts.
 use Rattle.std.specs.Prelude.{◌≡◌, ◌<◌, ◌≤◌, ◌+◌, ◌-◌, ◌^◌, ℕ, Option, None, Some, List, [], ◌∷◌, encode_utf8_all, length, max, min, nat_le, take, if◌then◌else◌}
 use Rattle.mf_text.specs.declared.pair.Pair.{Pair}
+use Rattle.mf_edition.specs.Catalogues.{Catalogue as Known}
 use Rattle.mf_edition.specs.declared.change.Change.{Change}
 use Rattle.mf_edition.specs.declared.change.Change.TheVariants.{Catalogue, Locale}
 use Rattle.mf_edition.specs.declared.change.Entry.{Entry}
@@ -18,7 +19,8 @@ byte_count text = length (encode_utf8_all text)
 -- the bytes of the ids and the sources of messages
 abbrev pub messages_size : List Pair → ℕ
 messages_size [] = 0
-messages_size (message ∷ messages) = byte_count message.name + byte_count message.value + messages_size messages
+messages_size (message ∷ messages) =
+    byte_count message.name + byte_count message.value + messages_size messages
 
 -- a size as it is counted and shown: at most the greatest number of 64 bits
 abbrev pub shown : ℕ → ℕ
@@ -28,9 +30,14 @@ shown size = min size (2 ^ 64 - 1)
 abbrev pub least_size : ℕ
 least_size = 64
 
--- the size of a change: 64 bytes, and those of the texts that it has; a locale change keeps its own
+-- the size of a publication of messages: 64 bytes, and those of the texts that it has
+abbrev pub catalogue_size : Known → ℕ
+catalogue_size catalogue =
+    shown (least_size + byte_count catalogue.tag + messages_size catalogue.messages)
+
+-- the size of a change; a locale change keeps its own
 abbrev pub size_of : Change → ℕ
-size_of (Catalogue catalogue) = shown (least_size + byte_count catalogue.tag + messages_size catalogue.messages)
+size_of (Catalogue catalogue) = catalogue_size catalogue
 size_of (Locale tag place size) = max least_size size
 
 -- the sizes of the changes of a log together
@@ -46,11 +53,13 @@ most_entries = 65536
 abbrev pub most_bytes : ℕ
 most_bytes = 268435456
 
--- why a log doesn't accept a change, if it doesn't: it has all the entries that it may have, or else there are too few bytes left
+-- why a log doesn't accept a change, if it doesn't: it has all the entries that it may have, or else
+-- there are too few bytes left
 abbrev pub refusal_of : List Entry → Change → Option Refusal
 refusal_of log change =
     if nat_le most_entries (length log) then Some (EditionsFull (length log)) else
-    (if nat_le (used_by log + size_of change) most_bytes then None else Some (StoreFull (used_by log) (size_of change)))
+    (if nat_le (used_by log + size_of change) most_bytes then None else
+    Some (StoreFull (used_by log) (size_of change)))
 
 -- the error that a refusal is
 abbrev pub refused : Refusal → PublishError
@@ -67,7 +76,8 @@ abbrev pub messages_by : List Entry → ℕ
 messages_by [] = 0
 messages_by (entry ∷ entries) = message_count entry.change + messages_by entries
 
--- the log has no more entries and no more bytes than it may have, so many bytes are counted for it, and no fewer than messages
+-- the log has no more entries and no more bytes than it may have, so many bytes are counted for it, and
+-- no fewer than messages
 pub record IsWithin (log : List Entry) (used : ℕ) : Type 0 where
   pub few : length log ≤ most_entries
   pub exact : used ≡ used_by log
@@ -76,4 +86,6 @@ pub record IsWithin (log : List Entry) (used : ℕ) : Type 0 where
 
 -- the bytes that are used tell the fronts of a log apart: more entries use more
 abbrev pub LongerLogsUseMore : Type 0
-LongerLogsUseMore = (log : List Entry) (j k : ℕ) → j < k → k ≤ length log → used_by (take j log) < used_by (take k log)
+LongerLogsUseMore =
+    (log : List Entry) (j k : ℕ)
+    → j < k → k ≤ length log → used_by (take j log) < used_by (take k log)

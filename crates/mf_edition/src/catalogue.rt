@@ -1,7 +1,7 @@
 ghost use Rattle.std.specs.Prelude.{◌≡◌, [], chars, length, IfOk, MatchResult, OnErr, OnOk};
 ghost use Rattle.std.specs.Arc.{arc_value};
-ghost use Rattle.mf_edition.specs.Catalogues.{AreInIdOrder, IsCatalogue, IsItemAt, IsItemGap, catalogue_of, insert_item};
-ghost use Rattle.mf_text.specs.Pairs.{insert_pair};
+ghost use Rattle.mf_edition.specs.Catalogues.{catalogue_of, insert_item, with_message};
+ghost use Rattle.mf_edition.specs.Catalogues.{AreInIdOrder, IsCatalogue, IsItemAt, IsItemGap};
 ghost use Rattle.mf_edition.specs.Items.{item_values};
 
 use crate::Item;
@@ -64,7 +64,7 @@ impl Catalogue {
     /// Puts a message in. Of two with one id the later one counts.
     pub fn put(&mut self, alloc: Global, id: &str, source: &str) -> Result<(), AllocError>
         ensures ok { OnOk result (self.new
-            ≡ record self.old { messages = insert_pair (record { name = chars id.now; value = chars source.now }) self.old.messages }) }
+            ≡ with_message self.old (record { name = chars id.now; value = chars source.now })) }
         ensures err { OnErr result (self.new ≡ self.old) }
     {
         let item = Item::new(alloc, &self.tag, id, source)?;
@@ -98,7 +98,8 @@ impl Eq for Catalogue {
 /// as it was.
 fn insert_item(items: &mut Vec<Arc<Item>>, item: Arc<Item>) -> Result<(), AllocError>
     requires { IsCatalogue (arc_value item).tag (item_values items.old.items) }
-    ensures ok { OnOk result (item_values items.new.items ≡ insert_item (arc_value item) (item_values items.old.items)) }
+    ensures ok { OnOk result (item_values items.new.items
+        ≡ insert_item (arc_value item) (item_values items.old.items)) }
     ensures catalogue { IsCatalogue (arc_value item).tag (item_values items.new.items) }
     ensures err { OnErr result (items.new.items ≡ items.old.items) }
 {

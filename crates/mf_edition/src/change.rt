@@ -1,5 +1,5 @@
-ghost use Rattle.std.specs.Prelude.{◌≡◌, ◌≤◌, ◌+◌, length};
-ghost use Rattle.mf_edition.specs.Sizes.{byte_count, least_size, messages_size, shown};
+ghost use Rattle.std.specs.Prelude.{◌≡◌, ◌≤◌, length};
+ghost use Rattle.mf_edition.specs.Sizes.{catalogue_size};
 
 use crate::Catalogue;
 use mf_locale::{SharedRecord, Tag};
@@ -41,7 +41,7 @@ impl Change {
 
 /// The size of a catalogue.
 fn catalogue_size(catalogue: &Catalogue) -> u64
-    ensures size { result ≡ shown (least_size + byte_count catalogue.now.tag + messages_size catalogue.now.messages) }
+    ensures size { result ≡ catalogue_size catalogue.now }
     ensures counted { length catalogue.now.messages ≤ result }
 {
     let tag = catalogue.tag().as_text().as_str();

@@ -1,11 +1,11 @@
-ghost use Rattle.std.specs.Prelude.{◌≡◌, ◌<◌, ◌^◌, length, map, position, slice_get, IfOk, IfSome, OnErr, OnOk};
+ghost use Rattle.std.specs.Prelude.{◌≡◌, ◌<◌, ◌^◌, length, position, slice_get, IfOk, IfSome, OnErr, OnOk};
 ghost use Rattle.std.specs.Option.{option_copied};
-ghost use Rattle.mf_edition.specs.Edition.{changed, empty_edition, found_along, is_named, next_edition, put_all, recorded, HasRoom};
-ghost use Rattle.mf_edition.specs.Items.{item_of};
-ghost use Rattle.mf_edition.specs.Records.{place_for, put_record};
+ghost use Rattle.mf_edition.specs.Edition.{changed, empty_edition, found_along, is_named, next_edition};
+ghost use Rattle.mf_edition.specs.Edition.{published, recorded, HasRoom};
+ghost use Rattle.mf_edition.specs.Records.{place_for};
 
 use crate::order::{index_of, put_all};
-use crate::record::{TaggedRecord, place_for, put_record};
+use crate::record::Records;
 use crate::{Catalogue, Change, Found, Item};
 use mf_locale::{LocaleRecord, SharedRecord, Tag, Tags, root};
 use mf_text::Text;
@@ -20,7 +20,7 @@ pub struct Edition {
     number: u64,
     items: Vec<Arc<Item>>,
     order: Vec<u32>,
-    records: Vec<TaggedRecord>,
+    records: Records,
     root: SharedRecord,
 }
 
@@ -32,9 +32,9 @@ impl Model for Edition {
 
     ghost Value = { EditionState };
 
-    ghost view = { λ e. state_of e.number e.items.items e.records.items };
+    ghost view = { λ e. state_of e.number e.items.items e.records };
 
-    ghost invariant = { λ e. IsKept e.items.items e.order.items e.records.items × (e.root ≡ root_record) };
+    ghost invariant = { λ e. IsKept e.items.items e.order.items × (e.root ≡ root_record) };
 }
 
 /// The same edition once more, which shares each message and each record.
@@ -66,7 +66,7 @@ impl Edition {
             number: 0,
             items: Vec::new(alloc),
             order: Vec::new(alloc),
-            records: Vec::new(alloc),
+            records: Records::new(alloc),
             root,
         })
     }
@@ -103,16 +103,15 @@ impl Edition {
     {
         match change {
             Change::Catalogue(catalogue) => self.put_messages(catalogue),
-            Change::Locale { tag, place, .. } => self.put_record(tag, place),
+            Change::Locale { tag, place, .. } => self.records.put_record(tag, place),
         }
     }
 
     /// Takes in the messages of a publication.
     fn put_messages(&mut self, catalogue: &Catalogue) -> Result<(), AllocError>
-        requires { length (put_all self.old.items (map (item_of catalogue.now.tag) catalogue.now.messages)) < 2 ^ 32 }
+        requires { length (published self.old.items catalogue.now) < 2 ^ 32 }
         ensures number { self.new.number ≡ self.old.number }
-        ensures items { OnOk result (self.new.items
-            ≡ put_all self.old.items (map (item_of catalogue.now.tag) catalogue.now.messages)) }
+        ensures items { OnOk result (self.new.items ≡ published self.old.items catalogue.now) }
         ensures records { self.new.records ≡ self.old.records }
         ensures err { OnErr result (self.new ≡ self.old) }
     {
@@ -121,18 +120,6 @@ impl Edition {
         self.order.reserve(new.len())?;
         put_all(&mut self.items, &mut self.order, new);
         Ok(())
-    }
-
-    /// Takes in the record of a tag.
-    fn put_record(&mut self, tag: &Tag, shared: &SharedRecord) -> Result<(), AllocError>
-        ensures number { self.new.number ≡ self.old.number }
-        ensures items { self.new.items ≡ self.old.items }
-        ensures records { OnOk result (self.new.records ≡ put_record self.old.records (record { tag = tag.now; shared = shared.now })) }
-        ensures err { OnErr result (self.new ≡ self.old) }
-    {
-        let tag = tag.clone()?;
-        let shared = shared.clone()?;
-        put_record(&mut self.records, TaggedRecord { tag, shared })
     }
 
     /// The number of changes that made it.
@@ -190,6 +177,6 @@ impl Edition {
     pub fn place_for(&self, tag: &Tag) -> &LocaleRecord
         ensures { result.now ≡ place_for self.now.records tag.now }
     {
-        place_for(&self.records, self.root.as_record(), tag)
+        self.records.place_for(self.root.as_record(), tag)
     }
 }

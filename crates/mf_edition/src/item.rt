@@ -29,7 +29,8 @@ impl Model for Item {
 impl Item {
     /// The message of a tag and an id with this source. A tag and an id of 4 GiB or more find no memory.
     pub fn new(alloc: Global, tag: &Tag, id: &str, source: &str) -> Result<Item, AllocError>
-        ensures { IfOk result (λ item. item ≡ record { tag = tag.now; id = chars id.now; source = chars source.now }) }
+        ensures { IfOk result (λ item. item
+            ≡ record { tag = tag.now; id = chars id.now; source = chars source.now }) }
     {
         let tag = tag.as_text().as_str();
         let len = tag.len().saturating_add(id.len());

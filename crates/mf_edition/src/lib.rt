@@ -23,7 +23,6 @@ pub use laws::{
 };
 pub use log::Log;
 pub use publications::Publications;
-pub use record::TaggedRecord;
 
 #[cfg(test)]
 mod tests;

@@ -140,7 +140,8 @@ fn publish_entry(
     requires { HasRoom newest.old entry.change }
     ensures entries { OnOk result (entries.new.items ≡ entries.old.items ++ entry ∷ []) }
     ensures newest { OnOk result (newest.new ≡ next_edition newest.old entry.change) }
-    ensures err { OnErr result ((entries.new.items ≡ entries.old.items) × (newest.new ≡ newest.old)) }
+    ensures err { OnErr result
+        ((entries.new.items ≡ entries.old.items) × (newest.new ≡ newest.old)) }
 {
     entries.reserve(1)?;
     newest.advance(&entry.change)?;

@@ -49,7 +49,8 @@ pub fn put_all(items: &mut Vec<Arc<Item>>, order: &mut Vec<u32>, new: Vec<Arc<It
     requires few { length (put_all (item_values items.old.items) (item_values new.items)) < 2 ^ 32 }
     requires items_fit { vec_len items.old + vec_len new ≤ vec_capacity items.old }
     requires indices_fit { vec_len order.old + vec_len new ≤ vec_capacity order.old }
-    ensures items { item_values items.new.items ≡ put_all (item_values items.old.items) (item_values new.items) }
+    ensures items { item_values items.new.items
+        ≡ put_all (item_values items.old.items) (item_values new.items) }
     ensures order { IsOrder (names_in items.new.items) order.new.items }
 {
     for item in new {
@@ -63,7 +64,8 @@ fn put(items: &mut Vec<Arc<Item>>, order: &mut Vec<u32>, item: Arc<Item>)
     requires few { length items.old.items < 2 ^ 32 }
     requires item_fits { vec_len items.old < vec_capacity items.old }
     requires index_fits { vec_len order.old < vec_capacity order.old }
-    ensures items { item_values items.new.items ≡ put (item_values items.old.items) (arc_value item) }
+    ensures items { item_values items.new.items
+        ≡ put (item_values items.old.items) (arc_value item) }
     ensures order { IsOrder (names_in items.new.items) order.new.items }
     ensures items_taken { vec_len items.new ≤ vec_len items.old + 1 }
     ensures indices_taken { vec_len order.new ≤ vec_len order.old + 1 }

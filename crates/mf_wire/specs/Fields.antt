@@ -23,7 +23,8 @@ tag_from text = if is_tag text then Some (lower_case text) else None
 
 -- a field that is a tag
 abbrev pub tag_field : List ℕ → Data → Option (List ℕ)
-tag_field name request = option_and_then (λ bytes. tag_from (chars bytes)) (string_field name request)
+tag_field name request =
+    option_and_then (λ bytes. tag_from (chars bytes)) (string_field name request)
 
 -- the object that a value is
 abbrev pub object_from : Data → Option Data
@@ -49,7 +50,8 @@ message_from id source = if is_id id then option_map (message_with id) (as_str s
 abbrev pub messages_from : Members → Option (List Pair)
 messages_from no_members = Some []
 messages_from (member id source more) =
-    option_and_then (λ message. option_map (λ messages. message ∷ messages) (messages_from more)) (message_from id source)
+    option_and_then (λ message. option_map (λ messages. message ∷ messages) (messages_from more))
+    (message_from id source)
 
 -- a catalogue has from 1 to 4,096 messages
 abbrev pub is_catalogue_size : ℕ → Bool
@@ -57,11 +59,13 @@ is_catalogue_size count = nat_le 1 count && nat_le count 4096
 
 -- the messages of a catalogue, where they are as many as it may have
 abbrev pub catalogue_from : Members → Option (List Pair)
-catalogue_from members = if is_catalogue_size (members_len members) then messages_from members else None
+catalogue_from members =
+    if is_catalogue_size (members_len members) then messages_from members else None
 
 -- a field that is a catalogue
 abbrev pub catalogue_field : List ℕ → Data → Option (List Pair)
-catalogue_field name request = option_and_then catalogue_from (option_and_then as_object (get name request))
+catalogue_field name request =
+    option_and_then catalogue_from (option_and_then as_object (get name request))
 
 -- the messages of a catalogue with their tag, in the byte order of their ids
 abbrev pub tagged : List ℕ → List Pair → Catalogue
@@ -73,18 +77,24 @@ whole_number value = option_and_then as_u64 (as_number value)
 
 -- a whole number as an argument: with a sign where 64 bits with a sign hold it, else without one
 abbrev pub argued_number : Data → Option Argued
-argued_number value = option_or (option_map Signed (option_and_then as_i64 (as_number value))) (option_map Unsigned (whole_number value))
+argued_number value =
+    option_or (option_map Signed (option_and_then as_i64 (as_number value)))
+    (option_map Unsigned (whole_number value))
 
 -- the value of an argument: a text, or a whole number
 abbrev pub argued_from : Data → Option Argued
-argued_from value = option_or (option_map (λ bytes. Text (chars bytes)) (as_str value)) (argued_number value)
+argued_from value =
+    option_or (option_map (λ bytes. Text (chars bytes)) (as_str value)) (argued_number value)
 
 -- the arguments found so far and those of an object, whose names are taken in Normalization Form C (Unicode Standard
 -- Annex 15), none where a member isn't an argument or two have one name
 abbrev pub arguments_from : Members → List (List ℕ × Argued) → Option (List (List ℕ × Argued))
 arguments_from no_members found = Some found
 arguments_from (member name value more) found =
-    option_and_then (λ argued. option_and_then (λ so_far. arguments_from more so_far) (with_new_argument found (nfc (chars name)) argued)) (argued_from value)
+    option_and_then
+    (λ argued. option_and_then (λ so_far. arguments_from more so_far)
+    (with_new_argument found (nfc (chars name)) argued))
+    (argued_from value)
 
 -- the arguments of a field: none where it is missing, and those of an object
 abbrev pub arguments_of : Option Data → Option (List (List ℕ × Argued))

@@ -12,4 +12,5 @@ onto_first byte (line ∷ lines) = (byte ∷ line) ∷ lines
 -- the pieces between line feeds, and what follows the last line feed where it isn't empty
 abbrev pub lines_of : List ℕ → List (List ℕ)
 lines_of [] = []
-lines_of (byte ∷ bytes) = if byte == line_feed then [] ∷ lines_of bytes else onto_first byte (lines_of bytes)
+lines_of (byte ∷ bytes) =
+    if byte == line_feed then [] ∷ lines_of bytes else onto_first byte (lines_of bytes)

@@ -24,12 +24,16 @@ text_member name text others = member name (string text) others
 abbrev pub number_member : List ℕ → ℕ → Members → Members
 number_member name n others = member name (number (unsigned n)) others
 
+-- the object of a part that has a kind and a value
+abbrev pub plain_part : List ℕ → List ℕ → Data
+plain_part kind value =
+    object (text_member (codes "kind") kind (text_member (codes "value") value no_members))
+
 -- the object of a part
 abbrev pub part_data : Part → Data
-part_data (Text text) = object (text_member (codes "kind") (codes "text") (text_member (codes "value") (encode_utf8_all text) no_members))
-part_data (Isolate mark) = object (text_member (codes "kind") (codes "isolate") (text_member (codes "value") (encode_utf8 mark) no_members))
-part_data (String value dir forced None) =
-    object (text_member (codes "kind") (codes "string") (text_member (codes "value") (encode_utf8_all value) no_members))
+part_data (Text text) = plain_part (codes "text") (encode_utf8_all text)
+part_data (Isolate mark) = plain_part (codes "isolate") (encode_utf8 mark)
+part_data (String value dir forced None) = plain_part (codes "string") (encode_utf8_all value)
 part_data (String value dir forced (Some id)) = object
     (text_member (codes "id") (encode_utf8_all id)
     (text_member (codes "kind") (codes "string")
@@ -59,44 +63,56 @@ formatted_data edition tag parts = object
 
 -- the object of an error (Unicode TS 35, Part 9, "Errors"; the names of the classes are this project's own)
 abbrev pub fault_data : Fault → Data
-fault_data fault = object (text_member (codes "kind") (class_of fault.kind) (text_member (codes "of") (encode_utf8_all fault.of) no_members))
+fault_data fault = object
+    (text_member (codes "kind") (class_of fault.kind)
+    (text_member (codes "of") (encode_utf8_all fault.of) no_members))
 
 abbrev pub faults_data : List Fault → Data
 faults_data faults = array (items_of (map fault_data faults))
 
 -- the object of an invalid source
 abbrev pub invalid_data : List Fault → Data
-invalid_data faults = object (member (codes "errors") (faults_data faults) (text_member (codes "ok") (codes "lint") no_members))
+invalid_data faults = object
+    (member (codes "errors") (faults_data faults)
+    (text_member (codes "ok") (codes "lint") no_members))
 
 -- the object of a valid source
 abbrev pub valid_data : List ℕ → Data
-valid_data source =
-    object (member (codes "errors") (array no_items) (text_member (codes "ok") (codes "lint") (text_member (codes "source") (encode_utf8_all source) no_members)))
+valid_data source = object
+    (member (codes "errors") (array no_items)
+    (text_member (codes "ok") (codes "lint")
+    (text_member (codes "source") (encode_utf8_all source) no_members)))
 
 -- the JSON value of a reply
 abbrev pub reply_data : Reply → Data
-reply_data (Accepted edition op) = object (number_member (codes "edition") edition (text_member (codes "ok") (op_name op) no_members))
+reply_data (Accepted edition op) = object
+    (number_member (codes "edition") edition
+    (text_member (codes "ok") (op_name op) no_members))
 reply_data (Formatted edition tag parts) = formatted_data edition tag parts
 reply_data (LintValid source) = valid_data source
 reply_data (LintInvalid faults) = invalid_data faults
 reply_data BadJson = object (text_member (codes "error") (codes "bad-json") no_members)
-reply_data (BadRequest field) =
-    object (text_member (codes "error") (codes "bad-request") (text_member (codes "field") (field_name field) no_members))
-reply_data (BadLocale field None) =
-    object (text_member (codes "error") (codes "bad-locale") (text_member (codes "field") (name_of field) no_members))
+reply_data (BadRequest field) = object
+    (text_member (codes "error") (codes "bad-request")
+    (text_member (codes "field") (field_name field) no_members))
+reply_data (BadLocale field None) = object
+    (text_member (codes "error") (codes "bad-locale")
+    (text_member (codes "field") (name_of field) no_members))
 reply_data (BadLocale field (Some rule)) = object
     (text_member (codes "error") (codes "bad-locale")
     (text_member (codes "field") (name_of field)
     (number_member (codes "rule") rule no_members)))
-reply_data (EditionsFull entries) =
-    object (number_member (codes "entries") entries (text_member (codes "error") (codes "editions-full") no_members))
+reply_data (EditionsFull entries) = object
+    (number_member (codes "entries") entries
+    (text_member (codes "error") (codes "editions-full") no_members))
 reply_data (StoreFull used size) = object
     (text_member (codes "error") (codes "store-full")
     (number_member (codes "size") size
     (number_member (codes "used") used no_members)))
 reply_data NotBuilt = object (text_member (codes "error") (codes "not-built") no_members)
-reply_data (NoMessage edition) =
-    object (number_member (codes "edition") edition (text_member (codes "error") (codes "no-message") no_members))
+reply_data (NoMessage edition) = object
+    (number_member (codes "edition") edition
+    (text_member (codes "error") (codes "no-message") no_members))
 reply_data (NotYet edition since) = object
     (number_member (codes "edition") edition
     (text_member (codes "error") (codes "not-yet")

@@ -39,7 +39,8 @@ fault_reply (bad_rule field number) = BadLocale field (Some number)
 
 -- a publication of a record for a tag, or the reply that refuses the record
 abbrev pub record_request : List ℕ → Data → Result LocaleRecord RecordFault → Result Request Reply
-record_request tag given (Ok record_read) = Ok (Publish (Locale tag record_read (record_size tag given)))
+record_request tag given (Ok record_read) =
+    Ok (Publish (Locale tag record_read (record_size tag given)))
 record_request tag given (Err fault) = Err (fault_reply fault)
 
 -- a publication of a locale record: a tag and an object, then the record's own fields
@@ -60,7 +61,8 @@ format_request request =
 
 -- a request to lint a source
 abbrev pub lint_request : Data → Result Request Reply
-lint_request request = need field.Source (string_field (codes "source") request) (λ source. Ok (Lint (chars source)))
+lint_request request =
+    need field.Source (string_field (codes "source") request) (λ source. Ok (Lint (chars source)))
 
 -- what an object with this `op` asks for; two of the six aren't built yet
 abbrev pub request_by : List ℕ → Data → Result Request Reply

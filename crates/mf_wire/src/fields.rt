@@ -77,7 +77,8 @@ fn catalogue(
 ) -> Result<Option<Catalogue>, AllocError>
     ensures { IfOk result
         (λ catalogue. catalogue
-        ≡ option_map (fields.tagged tag) (fields.catalogue_from (members_view members.now.entries))) }
+        ≡ option_map (fields.tagged tag)
+        (fields.catalogue_from (members_view members.now.entries))) }
 {
     if is_catalogue_size(members.len()) {
         messages(alloc, members, tag)
@@ -101,7 +102,8 @@ fn messages(
 ) -> Result<Option<Catalogue>, AllocError>
     ensures { IfOk result
         (λ catalogue. catalogue
-        ≡ option_map (fields.tagged tag) (fields.messages_from (members_view members.now.entries))) }
+        ≡ option_map (fields.tagged tag)
+        (fields.messages_from (members_view members.now.entries))) }
 {
     let mut catalogue = Catalogue::new(alloc, tag, members.len())?;
     for (id, value) in members {

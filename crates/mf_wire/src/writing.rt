@@ -3,7 +3,8 @@
 ghost use Rattle.std.specs.Prelude.{◌≡◌, ◌<◌, codes, IfSome, OnErr, OnOk, encode_utf8_all};
 ghost use Rattle.serde_json.specs.Data.{number, object, string, array, unsigned, no_items};
 ghost use Rattle.mf_parts.specs.Joined.{text_of};
-ghost use Rattle.mf_wire.specs.Replies.{fault_data, faults_data, formatted_data, invalid_data, part_data, parts_data, reply_data, valid_data};
+ghost use Rattle.mf_wire.specs.Replies.{fault_data, faults_data, formatted_data, invalid_data};
+ghost use Rattle.mf_wire.specs.Replies.{part_data, parts_data, plain_part, reply_data, valid_data};
 ghost use Rattle.mf_wire.specs.Writing.{Writes, WritesMember, WritesRowMember, row_members};
 ghost use Rattle.mf_wire.specs.declared.reply.Reply.TheVariants as reply;
 
@@ -51,62 +52,13 @@ pub(crate) fn write_reply(alloc: Global, out: &mut Writer, reply: &Reply) -> Res
         Reply::LintValid { source } => write_valid(out, source),
         Reply::LintInvalid { faults } => write_invalid(out, faults),
         Reply::BadJson => write_row(out, &[Member::Text("error", "bad-json")]),
-        Reply::BadRequest { field } => write_row(
-            out,
-            &[
-                Member::Text("error", "bad-request"),
-                Member::Text("field", field.as_str()),
-            ],
-        ),
-        Reply::BadLocale { field, rule: None } => write_row(
-            out,
-            &[
-                Member::Text("error", "bad-locale"),
-                Member::Text("field", field.as_str()),
-            ],
-        ),
-        Reply::BadLocale {
-            field,
-            rule: Some(rule),
-        } => write_row(
-            out,
-            &[
-                Member::Text("error", "bad-locale"),
-                Member::Text("field", field.as_str()),
-                Member::Number("rule", u64::from(*rule)),
-            ],
-        ),
-        Reply::EditionsFull { entries } => write_row(
-            out,
-            &[
-                Member::Number("entries", *entries),
-                Member::Text("error", "editions-full"),
-            ],
-        ),
-        Reply::StoreFull { used, size } => write_row(
-            out,
-            &[
-                Member::Text("error", "store-full"),
-                Member::Number("size", *size),
-                Member::Number("used", *used),
-            ],
-        ),
+        Reply::BadRequest { field } => write_bad_request(out, *field),
+        Reply::BadLocale { field, rule } => write_bad_locale(out, *field, *rule),
+        Reply::EditionsFull { entries } => write_editions_full(out, *entries),
+        Reply::StoreFull { used, size } => write_store_full(out, *used, *size),
         Reply::NotBuilt => write_row(out, &[Member::Text("error", "not-built")]),
-        Reply::NoMessage { edition } => write_row(
-            out,
-            &[
-                Member::Number("edition", *edition),
-                Member::Text("error", "no-message"),
-            ],
-        ),
-        Reply::NotYet { edition, since } => write_row(
-            out,
-            &[
-                Member::Number("edition", *edition),
-                Member::Text("error", "not-yet"),
-                Member::Number("since", *since),
-            ],
-        ),
+        Reply::NoMessage { edition } => write_no_message(out, *edition),
+        Reply::NotYet { edition, since } => write_not_yet(out, *edition, *since),
     }
 }
 
@@ -168,6 +120,90 @@ pub(crate) fn write_accepted(out: &mut Writer, edition: u64, op: Op) -> Result<(
     out.key("ok")?;
     out.string(op.as_str())?;
     out.end_object()
+}
+
+/// Writes the object of a request that is refused by a field.
+fn write_bad_request(out: &mut Writer, field: Field) -> Result<(), AllocError>
+    ensures { OnOk result (Writes (reply_data (reply.BadRequest field)) out.old out.new) }
+{
+    write_row(
+        out,
+        &[
+            Member::Text("error", "bad-request"),
+            Member::Text("field", field.as_str()),
+        ],
+    )
+}
+
+/// Writes the object of a locale record that is refused by a field, and by a rule where one is named.
+fn write_bad_locale(
+    out: &mut Writer,
+    field: RecordField,
+    rule: Option<u32>,
+) -> Result<(), AllocError>
+    ensures { OnOk result (Writes (reply_data (reply.BadLocale field rule)) out.old out.new) }
+{
+    out.begin_object()?;
+    write_text(out, "error", "bad-locale")?;
+    write_text(out, "field", field.as_str())?;
+    if let Some(rule) = rule {
+        write_number(out, "rule", u64::from(rule))?;
+    }
+    out.end_object()
+}
+
+/// Writes the object of a publication for which the log has too many entries.
+fn write_editions_full(out: &mut Writer, entries: u64) -> Result<(), AllocError>
+    ensures { OnOk result (Writes (reply_data (reply.EditionsFull entries)) out.old out.new) }
+{
+    write_row(
+        out,
+        &[
+            Member::Number("entries", entries),
+            Member::Text("error", "editions-full"),
+        ],
+    )
+}
+
+/// Writes the object of a publication for which the log has too few bytes left.
+fn write_store_full(out: &mut Writer, used: u64, size: u64) -> Result<(), AllocError>
+    ensures { OnOk result (Writes (reply_data (reply.StoreFull used size)) out.old out.new) }
+{
+    write_row(
+        out,
+        &[
+            Member::Text("error", "store-full"),
+            Member::Number("size", size),
+            Member::Number("used", used),
+        ],
+    )
+}
+
+/// Writes the object of a message that isn't there.
+fn write_no_message(out: &mut Writer, edition: u64) -> Result<(), AllocError>
+    ensures { OnOk result (Writes (reply_data (reply.NoMessage edition)) out.old out.new) }
+{
+    write_row(
+        out,
+        &[
+            Member::Number("edition", edition),
+            Member::Text("error", "no-message"),
+        ],
+    )
+}
+
+/// Writes the object of an edition that isn't there yet.
+fn write_not_yet(out: &mut Writer, edition: u64, since: u64) -> Result<(), AllocError>
+    ensures { OnOk result (Writes (reply_data (reply.NotYet edition since)) out.old out.new) }
+{
+    write_row(
+        out,
+        &[
+            Member::Number("edition", edition),
+            Member::Text("error", "not-yet"),
+            Member::Number("since", since),
+        ],
+    )
 }
 
 /// Writes the object of a valid source.
@@ -247,7 +283,8 @@ fn write_formatted(
 /// Writes the member of the parts' text. The text of a part that is alone is written as it stands, with no copy made.
 fn write_joined(alloc: Global, out: &mut Writer, parts: &Parts) -> Result<(), AllocError>
     ensures { OnOk result
-        (WritesMember (codes "text") (string (encode_utf8_all (text_of parts.now))) out.old out.new) }
+        (WritesMember (codes "text") (string (encode_utf8_all (text_of parts.now)))
+        out.old out.new) }
 {
     if let Some(text) = lone_text(parts) {
         return write_text(out, "text", text);
@@ -283,32 +320,17 @@ fn write_part(out: &mut Writer, part: &Part) -> Result<(), AllocError>
     ensures { OnOk result (Writes (part_data part.now) out.old out.new) }
 {
     match part {
-        Part::Text(text) => write_row(
-            out,
-            &[
-                Member::Text("kind", "text"),
-                Member::Text("value", text.as_str()),
-            ],
-        ),
+        Part::Text(text) => write_plain_part(out, "text", text.as_str()),
         Part::Isolate(mark) => {
             let mut buffer = [0; 4];
             let mark = mark.encode_utf8(&mut buffer);
-            write_row(
-                out,
-                &[Member::Text("kind", "isolate"), Member::Text("value", mark)],
-            )
+            write_plain_part(out, "isolate", mark)
         }
         Part::String {
             value,
             id: None,
             ..
-        } => write_row(
-            out,
-            &[
-                Member::Text("kind", "string"),
-                Member::Text("value", value.as_str()),
-            ],
-        ),
+        } => write_plain_part(out, "string", value.as_str()),
         Part::String {
             value,
             id: Some(id),
@@ -322,4 +344,14 @@ fn write_part(out: &mut Writer, part: &Part) -> Result<(), AllocError>
             ],
         ),
     }
+}
+
+/// Writes the object of a part that has a kind and a value.
+fn write_plain_part(out: &mut Writer, kind: &str, value: &str) -> Result<(), AllocError>
+    ensures { OnOk result (Writes (plain_part kind.now value.now) out.old out.new) }
+{
+    write_row(
+        out,
+        &[Member::Text("kind", kind), Member::Text("value", value)],
+    )
 }

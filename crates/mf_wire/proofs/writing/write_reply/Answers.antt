@@ -1,21 +1,10 @@
-use Rattle.std.proofs.Common.{OnOk, codes, subst}
-use Rattle.serde_json.specs.Data.{object, no_members}
-use Rattle.mf_wire.specs.Replies.{formatted_data, text_member}
+use Rattle.std.proofs.Common.{OnOk, subst}
+use Rattle.mf_wire.specs.Replies.{formatted_data}
 use Rattle.mf_wire.specs.Writing.{Writes}
 use Rattle.mf_wire.proofs.writing.write_reply.Goals as goal
 
 pub returns-in-BadJson : goal.returns-in-BadJson
 returns-in-BadJson c = rw c.in-BadJson.is c.write_row.ensures
-
-pub returns-in-BadRequest : goal.returns-in-BadRequest
-returns-in-BadRequest c =
-    rw c.in-BadRequest.is
-    (subst (λ field. OnOk c.write_row-in-BadRequest.result
-    (Writes (object (text_member (codes "error") (codes "bad-request") (text_member (codes "field") field no_members))) c.args.out.now c.write_row-in-BadRequest.new.out))
-    c.as_str.ensures c.write_row-in-BadRequest.ensures)
-
-pub returns-in-StoreFull : goal.returns-in-StoreFull
-returns-in-StoreFull c = rw c.in-StoreFull.is c.write_row-in-StoreFull.ensures
 
 pub returns-in-NotBuilt : goal.returns-in-NotBuilt
 returns-in-NotBuilt c = rw c.in-NotBuilt.is c.write_row-in-NotBuilt.ensures

@@ -29,7 +29,6 @@ invariant_of-self-2 c =
       record {
         few = subst (λ n. n < 2 ^ 32) (length-map c.put_all.new.items.items arc_value) (subst (λ its. length its < 2 ^ 32) (sym items) c.requires);
         ordered = c.put_all.ensures.order;
-        ascending = c.self.invariant.0.ascending;
       },
       c.self.invariant.1,
     )

@@ -5,16 +5,12 @@ use Rattle.std.specs.Arc.{arc_value}
 use Rattle.std.specs.List.{each_same}
 use Rattle.mf_edition.specs.Items.{item_values}
 use Rattle.mf_edition.specs.Order.{names_of, IsOrder}
-use Rattle.mf_edition.specs.RecordOrder.{AreInTagOrder}
 use Rattle.mf_edition.proofs.Growth.{values_shared}
 use Rattle.mf_edition.proofs.edition.EditionClone.clone.Goals as goal
 use Rattle.mf_edition.proofs.edition.EditionClone.clone.Goals.{In_ok-root}
 
 same_items : (c : In_ok-root) → item_values c.in_ok-items.items.items ≡ item_values c.self.inside.items.items
 same_items c = values_shared _ _ c.in_ok-items.ensures.cases.0
-
-same_records : (c : In_ok-root) → c.in_ok-records.records.items ≡ c.self.inside.records.items
-same_records c = each_same c.self.inside.records.items c.in_ok-records.records.items c.in_ok-records.ensures.cases.0
 
 pub invariant_of-result : goal.invariant_of-result
 invariant_of-result c =
@@ -26,7 +22,6 @@ invariant_of-result c =
         ordered =
             subst (λ os. IsOrder (names_of (item_values c.in_ok-items.items.items)) os) (sym order)
             (subst (λ its. IsOrder (names_of its) c.self.inside.order.items) (sym (same_items at)) c.self.invariant.0.ordered);
-        ascending = subst AreInTagOrder (sym (same_records at)) c.self.invariant.0.ascending;
       },
       c.in_ok-root.ensures.cases ∙ c.self.invariant.1,
     )
@@ -34,4 +29,4 @@ invariant_of-result c =
 pub returns : goal.returns
 returns c =
     let at = (goal.at.returns c).In_ok-root in
-    record { cases = (λ i. record { number = c.self.inside.number; items = same_items at i; records = same_records at i }) ∙ c.self.view_is }
+    record { cases = (λ i. record { number = c.self.inside.number; items = same_items at i; records = c.in_ok-records.ensures.cases i }) ∙ c.self.view_is }

@@ -7,14 +7,14 @@ use Rattle.mf_locale.proofs.Truncations.{truncations_at, truncations_one, IsLast
 use Rattle.mf_locale.specs.Chain.{truncations}
 use Rattle.mf_edition.specs.Records.{first_record, record_of}
 use Rattle.mf_edition.proofs.RecordChain.{option_or_none}
-use Rattle.mf_edition.proofs.record.first_record.Goals as goal
+use Rattle.mf_edition.proofs.record.Records.first_record.Goals as goal
 
 range_is : (text : List ℕ) (at : ℕ) → slice_range text 0 at ≡ take at text
 range_is text at = grind arith
 
 pub returns-in-Some-record_of : goal.returns-in-Some-record_of
 returns-in-Some-record_of c =
-    let places = c.args.records.now in
+    let places = c.args.self.now in
     let rest = c.loop-hyphen.rest.now in
     let place = rfind_char 45 rest (Some c.in-Some.hyphen) c.in-Some.ensures.cases (lit< tt) in
     let cut : IsLastHyphen rest c.in-Some.hyphen = record { inside = place.0; hyphen = place.1; last = place.2 } in
@@ -24,7 +24,7 @@ returns-in-Some-record_of c =
 
 pub loop-hyphen-preserved : goal.loop-hyphen-preserved
 loop-hyphen-preserved c =
-    let places = c.args.records.now in
+    let places = c.args.self.now in
     let rest = c.loop-hyphen.rest.now in
     let place = rfind_char 45 rest (Some c.in-Some.hyphen) c.in-Some.ensures.cases (lit< tt) in
     let cut : IsLastHyphen rest c.in-Some.hyphen = record { inside = place.0; hyphen = place.1; last = place.2 } in (
@@ -37,7 +37,7 @@ loop-hyphen-preserved c =
 
 pub returns : goal.returns
 returns c =
-    let places = c.args.records.now in
+    let places = c.args.self.now in
     let rest = c.loop-hyphen.rest.now in
     let none = rfind_char 45 rest None c.in_default.ensures.cases (lit< tt) in
     c.record_of-2.ensures
