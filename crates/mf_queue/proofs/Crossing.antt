@@ -1,0 +1,28 @@
+-- Seats go to other threads, and a table is shared by them, where what lies in its slots may be sent.
+use denote.RattleType.{RattleType}
+use denote.Struct.Struct.{Struct}
+use denote.Struct.Owning.{shape}
+use denote.Param.Send.{IsSend, IsSync, Frees, sendable, part_keyless}
+use Rattle.std.specs.declared.alloc.Allocator as allocator
+use Rattle.atomic_table.specs.declared.shared.TableRule.{Ghosts}
+use Rattle.atomic_table.specs.contracts.shared.Seat as seat
+use Rattle.atomic_table.specs.contracts.shared.Shared as shared
+use Rattle.atomic_table.specs.contracts.send_lease.SendLease as lease
+use Rattle.atomic_table.proofs.Sent.{seat_keyless, shares_keyless}
+use Rattle.atomic_table.proofs.Rights.{right_send}
+
+-- a seat has no bytes, and its views are kept under no key of a thread
+pub seat_send : (S V : RattleType) → IsSend S → IsSend (seat.the_row S V)
+seat_send S V send = record {
+  owned = λ d vs. ((λ outer. (tt, ((λ inner. (tt, tt)), tt))), seat_keyless S send V.coded.code d.table_id d.id d.me);
+  leaving = λ k f vs. tt;
+}
+
+-- what is shared of a table is its two pointers and what is kept under them
+pub shared_sync : (S V K P : RattleType) (g : Ghosts P.Denot S.Denot V.Denot K.Denot) → IsSend S → IsSync (shared.the_row S V K P g)
+shared_sync S V K P g send = let fields : IsSync (Struct (shape (shared.the_type S V K P g))) = search sendable depth 20 in
+    record { shared = λ d b o ν. (fields.shared (d.words, (d.slots, (tt, tt))) b o ν, shares_keyless S send V.coded.code d.table_id (g.holds d.key) d.words d.slots ν) }
+
+-- and the right to free it
+pub lease_sync : (T A : RattleType) (g : allocator.Ghosts A.Denot) → Frees g g.dealloc_token → IsSync (lease.the_row T A g)
+lease_sync T A g frees = record { shared = λ d b o ν q. part_keyless (lease.the_row T A g) (right_send T A g frees) q d b o }

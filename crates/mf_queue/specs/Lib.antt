@@ -1,0 +1,4 @@
+pub mod Line
+pub mod Queue
+pub mod Steps
+pub mod Duties
