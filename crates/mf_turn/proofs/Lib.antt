@@ -1,0 +1,12 @@
+pub mod Lists
+pub mod Numbers
+pub mod Keeping
+pub mod Ending
+pub mod Acts
+pub mod Raising
+pub mod Joining
+pub mod Opening
+pub mod Teaching
+pub mod Duties
+pub mod Standings
+pub mod Crossing
