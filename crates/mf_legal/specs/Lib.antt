@@ -1,0 +1,4 @@
+-- Read in this order: Calls, what a call is; Transcripts, the calls of one caller; Histories, the calls of all callers in one order.
+pub mod Calls
+pub mod Transcripts
+pub mod Histories
