@@ -1,0 +1,12 @@
+pub mod Puts
+pub mod Pins
+pub mod Logs
+pub mod Claims
+pub mod Rows
+pub mod Steps
+pub mod Counts
+pub mod Afterwards
+pub mod Events
+pub mod Published
+pub mod Answered
+pub mod Moments

@@ -1,0 +1,22 @@
+//! Callers that publish, pin, compile and leave: the core of a server of several callers, event by event.
+#![tactic(auto)]
+
+mod caller;
+mod error;
+mod event;
+mod held;
+pub mod laws;
+mod parts;
+mod running;
+pub mod scripts;
+mod seat;
+mod world;
+
+pub use caller::CallerState;
+pub use error::CoreError;
+pub use event::{Event, Told};
+pub use running::step;
+pub use world::World;
+
+#[cfg(test)]
+mod tests;
