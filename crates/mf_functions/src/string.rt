@@ -46,19 +46,8 @@ pub fn operand_text(alloc: Global, operand: Option<&Value>) -> Result<Option<Tex
     ensures { IfOk result (λ text. text ≡ functions.operand_text (option_copied operand.entry)) }
 {
     match operand {
-        Some(value) => content_text(alloc, &value.content),
+        Some(value) => value.content.option_text(alloc),
         None => Ok(None),
-    }
-}
-
-/// The option text of a value that is a text or a number.
-fn content_text(alloc: Global, content: &Content) -> Result<Option<Text>, AllocError>
-    ensures { IfOk result (λ text. text ≡ functions.content_text content.now) }
-{
-    match content {
-        Content::Text(text) => Ok(Some(text.clone()?)),
-        Content::Number { amount, .. } => Ok(Some(Text::from(amount.exact_text(alloc)?))),
-        Content::Fallback(_) => Ok(None),
     }
 }
 

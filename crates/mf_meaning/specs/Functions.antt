@@ -1,6 +1,5 @@
 -- What a call of a built-in function gives (Unicode TS 35, Part 9, "Default Functions").
 use Rattle.std.specs.Prelude.{◌≡◌, refl, ℕ, ◌+◌, Bool, true, false, List, [], ◌∷◌, Option, Some, None, option_map, encode_utf8_all, if◌then◌else◌}
-use Rattle.mf_decimal.specs.Text.{exact_text}
 use Rattle.mf_decimal.specs.declared.decimal.Decimal.{Decimal}
 use Rattle.mf_locale.specs.declared.record.LocaleRecord.{LocaleRecord}
 use Rattle.mf_text.specs.declared.direction.Direction.TheVariants.{Unknown}
@@ -9,7 +8,7 @@ use Rattle.mf_tree.specs.declared.fault.Kind.TheVariants.{BadOption}
 use Rattle.mf_tree.specs.declared.name.Identifier.{Identifier}
 use Rattle.mf_tree.specs.declared.name.Name.{Name}
 use Rattle.mf_value.specs.Ranges.{is_way_of_number}
-use Rattle.mf_value.specs.Values.{nothing_kept, selects_so}
+use Rattle.mf_value.specs.Values.{nothing_kept, option_text, selects_so}
 use Rattle.mf_value.specs.BuiltIns.{function_named}
 use Rattle.mf_value.specs.declared.built_in.BuiltIn.{BuiltIn}
 use Rattle.mf_value.specs.declared.built_in.BuiltIn.TheVariants as function
@@ -108,15 +107,10 @@ abbrev pub number_called : LocaleRecord → NumberFunction → List Pair → Opt
 number_called locale function presets operand written =
     called_with (option_map (number_after locale function written presets) (operand_number operand)) (refused_options (is_allowed function) written)
 
--- the option text of a value that is a text or a number
-abbrev pub content_text : Content → Option (List ℕ)
-content_text (content.Text text) = Some text
-content_text (content.Number amount kept) = Some (exact_text amount)
-content_text (content.Fallback source) = None
-
+-- the option text of an operand
 abbrev pub operand_text : Option Value → Option (List ℕ)
 operand_text None = None
-operand_text (Some value) = content_text value.content
+operand_text (Some value) = option_text value.content
 
 -- a text that selects as one: its direction is unknown
 abbrev pub text_value : List ℕ → Value

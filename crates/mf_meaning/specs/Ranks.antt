@@ -1,5 +1,5 @@
 -- How well a key matches a value (Unicode TS 35, Part 9, "Pattern Selection"), and the meaning of the built-in functions.
-use Rattle.std.specs.Prelude.{ℕ, Bool, true, false, ◌||◌, List, [], ◌∷◌, Option, Some, None, encode_utf8_all, if◌then◌else◌}
+use Rattle.std.specs.Prelude.{ℕ, Bool, false, ◌||◌, List, [], ◌∷◌, Option, Some, None, encode_utf8_all, if◌then◌else◌}
 use Rattle.std.specs.List.{list_any}
 use Rattle.std.specs.Option.{is_some}
 use Rattle.std.specs.Str.{bytes_eq}
@@ -12,6 +12,7 @@ use Rattle.mf_plural.specs.Grammar.{keyword_text}
 use Rattle.mf_plural.specs.declared.rule.Category.{Category}
 use Rattle.mf_plural.specs.declared.rule.Category.TheVariants.{Zero, One, Two, Few, Many, Other}
 use Rattle.mf_value.specs.Meaning.{Meaning}
+use Rattle.mf_value.specs.Values.{selects_nothing}
 use Rattle.mf_value.specs.declared.called.Ranked.{Ranked}
 use Rattle.mf_value.specs.declared.called.Ranked.TheVariants as ranked
 use Rattle.mf_value.specs.declared.content.Content.{Content}
@@ -77,13 +78,6 @@ abbrev pub content_rank : LocaleRecord → Selects → Content → List ℕ → 
 content_rank locale selects (content.Text text) key = text_rank text key
 content_rank locale selects (content.Number amount kept) key = number_rank (exact_key amount kept) (category_of locale selects amount kept) key
 content_rank locale selects (content.Fallback source) key = ranked.Never
-
-abbrev pub selects_nothing : Selects → Bool
-selects_nothing Nothing = true
-selects_nothing Text = false
-selects_nothing Plural = false
-selects_nothing Ordinal = false
-selects_nothing Exact = false
 
 abbrev pub rank : LocaleRecord → Value → List ℕ → Ranked
 rank locale value key = if selects_nothing value.selects then ranked.Never else content_rank locale value.selects value.content key

@@ -11,6 +11,7 @@ mod literal;
 mod message;
 mod pattern;
 
+pub use literal::push_quoted;
 pub use message::print;
 
 #[cfg(test)]

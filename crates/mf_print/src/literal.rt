@@ -42,7 +42,8 @@ fn is_unquoted(value: &str) -> bool
     !value.is_empty() && value.chars().all(|c| is_name_char(c))
 }
 
-fn push_quoted(out: &mut Text, value: &Text) -> Result<(), AllocError>
+/// A literal in quotes.
+pub fn push_quoted(out: &mut Text, value: &Text) -> Result<(), AllocError>
     ensures { OnOk result (out.new ≡ out.old ++ quoted_source value.now) }
 {
     out.push('|')?;

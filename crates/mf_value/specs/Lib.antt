@@ -3,7 +3,11 @@
 pub mod Ranges
 pub mod Values
 pub mod Meaning
+pub mod Wholes
 pub mod NumberOptions
 pub mod BuiltIns
 pub mod Entries
 pub mod Index
+pub mod Traces
+pub mod ErrorLists
+pub mod Selection

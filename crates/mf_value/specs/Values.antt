@@ -1,5 +1,6 @@
--- How a value may select, and what a number keeps that was given no option.
-use Rattle.std.specs.Prelude.{refl, Bool, true, false, None}
+-- How a value may select, the option text of a value, and what a number keeps that was given no option.
+use Rattle.std.specs.Prelude.{refl, ℕ, Bool, true, false, List, Option, Some, None}
+use Rattle.mf_decimal.specs.Text.{exact_text}
 use Rattle.mf_value.specs.declared.content.Content.{Content}
 use Rattle.mf_value.specs.declared.content.Content.TheVariants as content
 use Rattle.mf_value.specs.declared.content.Selects.{Selects}
@@ -42,3 +43,17 @@ nothing_kept = record {
   min_significant_fits = refl;
   max_significant_fits = refl;
 }
+
+-- the option text of a text or a number; a fallback has none
+abbrev pub option_text : Content → Option (List ℕ)
+option_text (content.Text text) = Some text
+option_text (content.Number amount kept) = Some (exact_text amount)
+option_text (content.Fallback source) = None
+
+-- the value can't select
+abbrev pub selects_nothing : Selects → Bool
+selects_nothing Nothing = true
+selects_nothing Text = false
+selects_nothing Plural = false
+selects_nothing Ordinal = false
+selects_nothing Exact = false

@@ -14,6 +14,7 @@ mod handler;
 mod kept;
 mod no_options;
 mod number_option;
+mod option_text;
 mod value;
 
 pub use built_in::BuiltIn;
