@@ -1,0 +1,17 @@
+pub mod Wholes
+pub mod Adding
+pub mod Refused
+pub mod Binding
+pub mod Own
+pub mod Distinct
+pub mod Tracing
+pub mod OwnErrors
+pub mod Fallback
+pub mod Steps
+pub mod Using
+pub mod Optioning
+pub mod Calling
+pub mod Declaring
+pub mod Evaluating
+pub mod Giving
+pub mod Places
