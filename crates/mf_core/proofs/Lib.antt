@@ -10,3 +10,4 @@ pub mod Events
 pub mod Published
 pub mod Answered
 pub mod Moments
+pub mod Together

@@ -2,13 +2,14 @@
 use Rattle.std.proofs.Common.{◌≡◌, ◌∙◌, ℕ, suc, ◌+◌, ◌≤◌, List, [], ◌∷◌, ◌++◌, length, length-append, Bool, true, false, Option, Some, None, refl, ap, sym, subst, arith, append_assoc}
 use Rattle.std.specs.Prelude.{◌==◌, map, slice_get, take, Ok, Err, if◌then◌else◌}
 use Rattle.std.proofs.lemmas.Bool.{eqb-true, eqb-false}
-use Rattle.std.proofs.lemmas.List.{append-nil, length-take-le}
+use Rattle.std.proofs.lemmas.List.{length-take-le}
 use Rattle.mf_edition.specs.declared.change.Change.{Change}
 use Rattle.mf_edition.specs.declared.change.Entry.{Entry}
 use Rattle.mf_edition.specs.Edition.{EditionsStay}
-use Rattle.mf_legal.specs.Calls.{entry_at, made_by, publication, Call, Exchange, exchange_of}
+use Rattle.mf_legal.specs.Calls.{entry_at, made_by, publication, Call, Exchange}
 use Rattle.mf_legal.specs.Transcripts.{answered, IsEnd, Leads}
 use Rattle.mf_legal.proofs.Counts.{made-append, made_other, made_own}
+use Rattle.mf_legal.proofs.Fronts.{after_front, Longer, longer_both, same_longer}
 use Rattle.mf_core.specs.declared.error.CoreError.{CoreError}
 use Rattle.mf_core.specs.declared.event.Event.{Event}
 use Rattle.mf_core.specs.declared.event.Event.TheVariants.{Join, Publish, Pin, Ask, Done, Quit, Unpin, Leave}
@@ -16,18 +17,10 @@ use Rattle.mf_core.specs.Worlds.{new_world, World}
 use Rattle.mf_core.specs.Steps.{refusal, row}
 use Rattle.mf_core.specs.Runs.{after, after_by, answer_by}
 use Rattle.mf_core.specs.Valid.{Valid}
-use Rattle.mf_core.specs.Scripts.{accepts, Answer, core_service, event_calls, IsLocal, publishes, question_call, Request, script_calls, script_log, ScriptsAreTranscripts}
+use Rattle.mf_core.specs.Scripts.{accepts, Answer, core_service, event_calls, IsLocal, publishes, question_call, Request, script_calls, script_end, script_exchanges, ScriptsAreTranscripts}
 use Rattle.mf_core.proofs.Answered.{log_ask, log_done, log_quit}
 use Rattle.mf_core.proofs.Puts.{not_true}
 use Rattle.mf_core.proofs.Steps.{allowed, valid_new, valid_step}
-
--- a list that goes on from another
-record Longer {X : Type 0} (front whole : List X) : Type 0 where
-  rest : List X
-  split : whole ≡ front ++ rest
-
-same_longer : {X : Type 0} (front whole : List X) → whole ≡ front → Longer front whole
-same_longer front whole same = record { rest = []; split = same ∙ sym (append-nil front) }
 
 row_longer : (w : World) (event : Event) → Longer w.log (row w event).1.log
 row_longer w (Join n) = same_longer w.log w.log refl
@@ -46,17 +39,11 @@ step_longer w event = by (refusal w event)
     by None = row_longer w event
     by (Some error) = same_longer w.log w.log refl
 
--- the entry after a front
-after_front : (log rest : List Entry) (entry : Entry) → slice_get (log ++ entry ∷ rest) (length log) ≡ Some entry
-after_front [] rest entry = refl
-after_front (first ∷ log) rest entry = after_front log rest entry
-
 module _ {Question Reply : Type 0} (reply : List Entry → ℕ → Question → Reply) (local : IsLocal reply) where
-  log_longer : (script : List (Event × List Question)) (w : World) → Longer w.log (script_log reply w script)
+  log_longer : (script : List (Event × List Question)) (w : World) → Longer w.log (script_end reply w script).log
   log_longer [] w = same_longer w.log w.log refl
   log_longer (moment ∷ script) w =
-      let one = step_longer w moment.0 in let more = log_longer script (after w moment.0) in
-      record { rest = one.rest ++ more.rest; split = more.split ∙ ap (λ l. l ++ more.rest) one.split ∙ append_assoc w.log one.rest more.rest }
+      longer_both w.log (after w moment.0).log (script_end reply w (moment ∷ script)).log (step_longer w moment.0) (log_longer script (after w moment.0))
 
   module _ (whole : List Entry) (caller : ℕ) where
     abbrev Calls : Type 0
@@ -136,7 +123,7 @@ module _ {Question Reply : Type 0} (reply : List Entry → ℕ → Question → 
     row_leads w v (Unpin n) none questions rest longer further = further
     row_leads w v (Leave n) none questions rest longer further = further
 
-    refused_leads : (event : Event) (error : CoreError) (questions : List Question) → event_calls reply whole caller event (Err error) questions ≡ []
+    pub refused_leads : (event : Event) (error : CoreError) (questions : List Question) → event_calls reply whole caller event (Err error) questions ≡ []
     refused_leads (Join n) error questions = refl
     refused_leads (Publish n change) error questions = refl
     refused_leads (Pin n) error questions = refl
@@ -155,11 +142,11 @@ module _ {Question Reply : Type 0} (reply : List Entry → ℕ → Question → 
         subst (λ (l : Calls). GoesOn (length w.log) (made_by caller w.log) (l ++ rest)) (sym (refused_leads event error questions)) further
 
   script_leads : EditionsStay → (caller : ℕ) (script : List (Event × List Question)) (w : World) → Valid w
-      → GoesOn (script_log reply w script) caller (length w.log) (made_by caller w.log) (script_calls reply (script_log reply w script) caller w script)
+      → GoesOn (script_end reply w script).log caller (length w.log) (made_by caller w.log) (script_calls reply (script_end reply w script).log caller w script)
   script_leads stay caller [] w v = λ earlier seen less. (less, refl)
   script_leads stay caller (moment ∷ script) w v =
-      moment_leads (script_log reply w (moment ∷ script)) caller w v moment.0 moment.1
-      (script_calls reply (script_log reply w (moment ∷ script)) caller (after w moment.0) script) (refusal w moment.0) refl
+      moment_leads (script_end reply w (moment ∷ script)).log caller w v moment.0 moment.1
+      (script_calls reply (script_end reply w (moment ∷ script)).log caller (after w moment.0) script) (refusal w moment.0) refl
       (log_longer script (after w moment.0)) (script_leads stay caller script (after w moment.0) (valid_step stay w moment.0 v))
 
   all_answered : (exchanges : List (Exchange (Request Question) (Answer Reply))) → answered (core_service reply) exchanges ≡ exchanges
@@ -168,7 +155,7 @@ module _ {Question Reply : Type 0} (reply : List Entry → ℕ → Question → 
 
   pub scripts_are_transcripts : EditionsStay → ScriptsAreTranscripts reply
   scripts_are_transcripts stay script caller = record {
-    calls = script_calls reply (script_log reply new_world script) caller new_world script;
-    theirs = sym (all_answered (map exchange_of (script_calls reply (script_log reply new_world script) caller new_world script)));
+    calls = script_calls reply (script_end reply new_world script).log caller new_world script;
+    theirs = sym (all_answered (script_exchanges reply script caller));
     steps = script_leads stay caller script new_world valid_new [] 0 (omega arith);
   }

@@ -2,8 +2,9 @@
 use Rattle.std.specs.Prelude.{◌≡◌, ◌≤◌, ◌==◌, ◌++◌, ℕ, false, List, [], ◌∷◌, Result, Ok, length, map, take, if◌then◌else◌}
 use Rattle.mf_edition.specs.declared.change.Change.{Change}
 use Rattle.mf_edition.specs.declared.change.Entry.{Entry}
-use Rattle.mf_legal.specs.Calls.{publication, look, Call, exchange_of, Service}
+use Rattle.mf_legal.specs.Calls.{publication, look, Call, Exchange, exchange_of, Service}
 use Rattle.mf_legal.specs.Transcripts.{Transcript}
+use Rattle.mf_legal.specs.Histories.{Legal}
 use Rattle.mf_core.specs.declared.event.Event.{Event}
 use Rattle.mf_core.specs.declared.event.Event.TheVariants.{Join, Publish, Pin, Ask, Done, Quit, Unpin, Leave}
 use Rattle.mf_core.specs.declared.event.Told.{Told}
@@ -80,14 +81,22 @@ module _ {Question Reply : Type 0} (reply : List Entry → ℕ → Question → 
   script_calls whole caller w (moment ∷ script) =
       event_calls whole caller moment.0 (answer w moment.0) moment.1 ++ script_calls whole caller (after w moment.0) script
 
-  -- the log after a script
-  abbrev pub script_log : World → List (Event × List Question) → List Entry
-  script_log w [] = w.log
-  script_log w (moment ∷ script) = script_log (after w moment.0) script
+  -- the World after a script
+  abbrev pub script_end : World → List (Event × List Question) → World
+  script_end w [] = w
+  script_end w (moment ∷ script) = script_end (after w moment.0) script
+
+  -- what a caller asked and was answered in a script
+  abbrev pub script_exchanges : List (Event × List Question) → ℕ → List (Exchange (Request Question) (Answer Reply))
+  script_exchanges script caller = map exchange_of (script_calls (script_end new_world script).log caller new_world script)
 
   -- whatever questions stand at the pins of whatever events, those of each caller make with its accepted publications its transcript over
   -- the log at the end
   abbrev pub ScriptsAreTranscripts : Type 0
   ScriptsAreTranscripts = (script : List (Event × List Question)) (caller : ℕ)
-      → Transcript core_service caller (script_log new_world script) 0
-      (map exchange_of (script_calls (script_log new_world script) caller new_world script))
+      → Transcript core_service caller (script_end new_world script).log 0 (script_exchanges script caller)
+
+  -- and those of all callers make with the accepted publications one legal history
+  abbrev pub ScriptsAreLegal : Type 0
+  ScriptsAreLegal = (script : List (Event × List Question))
+      → Legal core_service (script_end new_world script).log (script_end new_world script).next (script_exchanges script)

@@ -1,5 +1,5 @@
-//! What holds of every list of events with questions at them. It does nothing when it is called.
-ghost use Rattle.mf_core.specs.Scripts.{IsLocal, ScriptsAreTranscripts};
+//! What holds of every list of events with questions at them. None of these does anything when it is called.
+ghost use Rattle.mf_core.specs.Scripts.{IsLocal, ScriptsAreLegal, ScriptsAreTranscripts};
 
 use mf_edition::editions_stay;
 
@@ -20,6 +20,14 @@ pub trait Meaning {
 /// publications its transcript over the log at the end.
 pub fn scripts_are_transcripts<M: Meaning>()
     ensures { IsLocal M.answer → ScriptsAreTranscripts M.answer }
+{
+    editions_stay();
+}
+
+/// The same of all callers at once: the questions, each answered at the number that its pin was told, and the accepted
+/// publications make one legal history, whose log is the one at the end.
+pub fn scripts_are_legal<M: Meaning>()
+    ensures { IsLocal M.answer → ScriptsAreLegal M.answer }
 {
     editions_stay();
 }
