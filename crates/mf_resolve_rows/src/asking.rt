@@ -1,0 +1,127 @@
+//! What a message's expressions come to.
+
+ghost use Rattle.std.specs.Prelude.{IsTrue};
+ghost use Rattle.mf_value.specs.Meaning.{IsTextOrNumber};
+
+use mf_functions::{BuiltIns, shown_text};
+use mf_locale::LocaleRecord;
+use mf_parse::{ParseError, parse};
+use mf_resolve::Scope;
+use mf_text::{Argued, Arguments, Direction, Text};
+use mf_tree::{Body, Faults, Message, Piece};
+use mf_value::{Content, Value};
+use std::alloc::{AllocError, Global};
+
+/// The answer to a row, written as a row has it.
+pub fn answer_of(alloc: Global, record: &LocaleRecord, asked: &str) -> Result<String, AllocError> {
+    let (source, words) = asked.split_once(" ?? ").unwrap_or((asked, ""));
+    let message = match parse(alloc, source) {
+        Ok(message) => message,
+        Err(ParseError::OutOfMemory) => return Err(AllocError),
+        Err(ParseError::Syntax) => return String::from_str(alloc, "no message"),
+    };
+    let mut arguments = Arguments::new(alloc);
+    for word in words.split(", ") {
+        if let Some((name, value)) = word.split_once('=') {
+            arguments.insert(alloc, name, argument(alloc, value)?)?;
+        }
+    }
+    resolved(alloc, record, &message, &arguments)
+}
+
+/// The value of an argument: a number behind `#`, else a text.
+fn argument(alloc: Global, value: &str) -> Result<Argued, AllocError> {
+    if let Some(digits) = value.strip_prefix("#") {
+        if let Ok(number) = digits.parse::<i64>() {
+            return Ok(Argued::Signed(number));
+        }
+    }
+    Ok(Argued::Text(Text::of(alloc, value)?))
+}
+
+/// The values of the expressions, or of the selectors, and the errors.
+fn resolved(
+    alloc: Global,
+    record: &LocaleRecord,
+    message: &Message,
+    arguments: &Arguments,
+) -> Result<String, AllocError> {
+    let functions = BuiltIns::new(record);
+    let mut scope = Scope::new(alloc, &message.declarations, arguments)?;
+    let mut answer = String::new(alloc);
+    match &message.body {
+        Body::Pattern(pieces) => {
+            for piece in pieces.as_slice() {
+                if let Piece::Expression(expression) = piece {
+                    let value = scope.resolve_expression(alloc, &functions, expression)?;
+                    push_value(alloc, &mut answer, record, &value)?;
+                }
+            }
+        }
+        Body::Match { selectors, .. } => {
+            for name in selectors.as_slice() {
+                let value = scope.resolve_variable(alloc, &functions, name)?;
+                push_value(alloc, &mut answer, record, &value)?;
+            }
+        }
+    }
+    push_faults(&mut answer, scope.faults())?;
+    Ok(answer)
+}
+
+fn push_value(
+    alloc: Global,
+    answer: &mut String,
+    record: &LocaleRecord,
+    value: &Value,
+) -> Result<(), AllocError> {
+    if !answer.as_str().is_empty() {
+        answer.push_str(" | ")?;
+    }
+    match &value.content {
+        Content::Fallback(source) => {
+            answer.push('{')?;
+            answer.push_str(source.as_str())?;
+            answer.push('}')?;
+        }
+        _ => {
+            if is_shown(value) {
+                answer.push_str(shown_text(alloc, record, value)?.as_str())?;
+            }
+        }
+    }
+    if value.forced {
+        answer.push_str(match value.dir {
+            Direction::Ltr => "!ltr",
+            Direction::Rtl => "!rtl",
+            Direction::Unknown => "!auto",
+        })?;
+    }
+    if let Some(id) = &value.id {
+        answer.push('#')?;
+        answer.push_str(id.as_str())?;
+    }
+    Ok(())
+}
+
+/// Whether a value is a text or a number.
+fn is_shown(value: &Value) -> bool
+    ensures { IsTrue result → IsTextOrNumber value.now.content }
+{
+    match value.content {
+        Content::Text(_) => true,
+        Content::Number { .. } => true,
+        Content::Fallback(_) => false,
+    }
+}
+
+/// Each error with its class and what it is about.
+fn push_faults(answer: &mut String, faults: &Faults) -> Result<(), AllocError> {
+    for fault in faults.as_slice() {
+        answer.push_str("; ")?;
+        answer.push_str(fault.kind.as_str())?;
+        answer.push(' ')?;
+        answer.push_str(fault.of.as_str())?;
+    }
+    Ok(())
+}
