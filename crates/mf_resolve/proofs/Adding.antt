@@ -1,5 +1,7 @@
 -- How errors are added: each where it first arose.
 use Rattle.std.proofs.Common.{◌≡◌, ◌==◌, ℕ, Bool, true, false, not, ◌&&◌, ◌||◌, cond, List, [], ◌∷◌, ◌++◌, refl, sym, ap, ◌∙◌, inl, inr, nat_eq}
+use Rattle.std.proofs.Math.Seq.{append_snoc}
+use Rattle.std.proofs.lemmas.List.{append-nil}
 use Rattle.std.proofs.lemmas.Bool.{cases_Bool, eq-eqb, eqb-true}
 use Rattle.std.specs.List.{list_all, list_any}
 use Rattle.std.specs.Cmp.Lexicographic.{pointwise, bytes_decides}
@@ -53,14 +55,6 @@ same_fault fault =
 pub is_not : (b : Bool) → not b ≡ true → b ≡ false
 is_not true is = cc
 is_not false is = refl
-
-append_nil : (xs : List Placed) → xs ++ [] ≡ xs
-append_nil [] = refl
-append_nil (x ∷ xs) = ap (λ xs. x ∷ xs) (append_nil xs)
-
-append_one : (xs : List Placed) (y : Placed) (ys : List Placed) → (xs ++ y ∷ []) ++ ys ≡ xs ++ y ∷ ys
-append_one [] y ys = refl
-append_one (x ∷ xs) y ys = ap (λ xs. x ∷ xs) (append_one xs y ys)
 
 -- Lists of tests.
 
@@ -158,11 +152,11 @@ firsts_append (fault ∷ faults) others before = firsts_append faults others (wi
 -- The errors of a node itself, and those of others.
 
 pub own_added : (node : Node) (faults before : List Placed) → list_all (λ (fault : Placed). is_same_node fault.node node) faults ≡ true → behind_at node before faults ≡ before ++ faults
-own_added node [] before own = sym (append_nil before)
+own_added node [] before own = sym (append-nil before)
 own_added node (fault ∷ faults) before own =
     ap (λ b. behind_at node (cond b (before ++ fault ∷ []) (with_fault before fault)) faults) (and_left _ _ own)
     ∙ own_added node faults (before ++ fault ∷ []) (and_right _ _ own)
-    ∙ append_one before fault faults
+    ∙ append_snoc before fault faults
 
 pub others_added : (node : Node) (faults before : List Placed) → is_free node faults ≡ true → behind_at node before faults ≡ firsts_behind before faults
 others_added node [] before free = refl

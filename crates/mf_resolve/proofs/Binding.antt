@@ -1,7 +1,8 @@
 -- Which declaration binds a variable, and what its trace is.
 use Rattle.std.proofs.Common.{◌≡◌, ◌<◌, ◌≤◌, ◌+◌, ◌-◌, ℕ, zero, suc, true, cond, nat_lt, List, [], ◌∷◌, ◌++◌, take, length, slice_get, Option, Some, None, refl, sym, ap, ◌∙◌, inl, inr, arith}
+use Rattle.std.proofs.lemmas.List.{append-nil}
 use Rattle.std.proofs.lemmas.Bool.{cases_Bool, lt-ltb, ltb-true}
-use Rattle.std.proofs.Math.Seq.{take-length}
+use Rattle.std.proofs.Math.Seq.{take-length, append_snoc}
 use Rattle.std.specs.Option.{option_map}
 use Rattle.mf_text.specs.declared.arguments.Argued.{Argued}
 use Rattle.mf_tree.specs.Equality.{is_same_name}
@@ -11,14 +12,6 @@ use Rattle.mf_tree.specs.declared.name.Name.{Name}
 use Rattle.mf_value.specs.Meaning.{Meaning}
 use Rattle.mf_value.specs.Traces.{Bound, Trace, binding, bound_by, bound_from, bound_variables}
 use Rattle.mf_resolve.specs.Sources.{place_below, place_from}
-
-append_nil : {X : Type 0} → (xs : List X) → xs ++ [] ≡ xs
-append_nil [] = refl
-append_nil (x ∷ xs) = ap (λ xs. x ∷ xs) (append_nil xs)
-
-append_one : {X : Type 0} → (xs : List X) (y : X) (ys : List X) → (xs ++ y ∷ []) ++ ys ≡ xs ++ y ∷ ys
-append_one [] y ys = refl
-append_one (x ∷ xs) y ys = ap (λ xs. x ∷ xs) (append_one xs y ys)
 
 abbrev pub trace_of : Bound → Trace
 trace_of bound = bound.trace
@@ -47,10 +40,10 @@ module _ (meaning : Meaning) (arguments : List (List ℕ × Argued)) where
       bound_by meaning arguments earlier place d ∷ more (earlier ++ bound_by meaning arguments earlier place d ∷ []) (place + 1) ds
 
   is_more : (ds : List Declaration) (earlier : List Bound) (place : ℕ) → bound_from meaning arguments earlier place ds ≡ earlier ++ more earlier place ds
-  is_more [] earlier place = sym (append_nil earlier)
+  is_more [] earlier place = sym (append-nil earlier)
   is_more (d ∷ ds) earlier place =
       is_more ds (earlier ++ bound_by meaning arguments earlier place d ∷ []) (place + 1)
-      ∙ append_one earlier (bound_by meaning arguments earlier place d) (more (earlier ++ bound_by meaning arguments earlier place d ∷ []) (place + 1) ds)
+      ∙ append_snoc earlier (bound_by meaning arguments earlier place d) (more (earlier ++ bound_by meaning arguments earlier place d ∷ []) (place + 1) ds)
 
   more_at : (ds : List Declaration) (earlier : List Bound) (p i : ℕ) (d : Declaration) → slice_get ds i ≡ Some d →
       slice_get (more earlier p ds) i ≡ Some (bound_by meaning arguments (earlier ++ take i (more earlier p ds)) (p + i) d)
@@ -59,13 +52,13 @@ module _ (meaning : Meaning) (arguments : List (List ℕ × Argued)) where
       let same : own ≡ d = cc in
       let place : p ≡ p + 0 = omega arith in
       ap (λ at. Some (bound_by meaning arguments earlier p at)) same
-      ∙ ap (λ front. Some (bound_by meaning arguments front p d)) (sym (append_nil earlier))
+      ∙ ap (λ front. Some (bound_by meaning arguments front p d)) (sym (append-nil earlier))
       ∙ ap (λ at. Some (bound_by meaning arguments (earlier ++ []) at d)) place
   more_at (own ∷ ds) earlier p (suc i) d is =
       let b : Bound = bound_by meaning arguments earlier p own in
       let place : p + 1 + i ≡ p + suc i = omega arith in
       more_at ds (earlier ++ b ∷ []) (p + 1) i d is
-      ∙ ap (λ front. Some (bound_by meaning arguments front (p + 1 + i) d)) (append_one earlier b (take i (more (earlier ++ b ∷ []) (p + 1) ds)))
+      ∙ ap (λ front. Some (bound_by meaning arguments front (p + 1 + i) d)) (append_snoc earlier b (take i (more (earlier ++ b ∷ []) (p + 1) ds)))
       ∙ ap (λ at. Some (bound_by meaning arguments (earlier ++ b ∷ take i (more (earlier ++ b ∷ []) (p + 1) ds)) at d)) place
 
   -- the variable of a declaration has its trace under those before it

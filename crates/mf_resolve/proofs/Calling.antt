@@ -1,5 +1,7 @@
 -- The call of a function, behind its options.
 use Rattle.std.proofs.Common.{◌≡◌, ◌+◌, ℕ, Bool, true, false, cond, List, [], ◌∷◌, ◌++◌, map, Option, Some, None, refl, sym, ap, ◌∙◌, inl, inr}
+use Rattle.std.proofs.Math.Seq.{append_snoc}
+use Rattle.std.proofs.lemmas.List.{append-nil}
 use Rattle.std.proofs.lemmas.Bool.{cases_Bool}
 use Rattle.std.specs.List.{list_all}
 use Rattle.mf_tree.specs.Faults.{identifier_text}
@@ -9,6 +11,7 @@ use Rattle.mf_tree.specs.declared.fault.Fault.{Fault}
 use Rattle.mf_tree.specs.declared.fault.Kind.TheVariants.{BadOperand, BadOption, UnknownFunction}
 use Rattle.mf_value.specs.ErrorLists.{is_same_node, without_place}
 use Rattle.mf_value.specs.Meaning.{Meaning}
+use Rattle.mf_value.specs.Selection.{markup_option}
 use Rattle.mf_value.specs.Traces.{Handed, Node, Optioned, Outcome, Placed, Trace, at_option, call_trace, called_trace, direction_after, direction_set, directed, fallback, fallback_source, function_source, given_options, given_trace, handed, handed_by, handed_from, id_after, id_set, identified, is_refused, of_function, option_faults, option_traces, passed_over, refusals_from, unknown_function, value_after, with_direction}
 use Rattle.mf_value.specs.declared.called.CallFault.{CallFault}
 use Rattle.mf_value.specs.declared.called.Called.{Called}
@@ -16,7 +19,7 @@ use Rattle.mf_value.specs.declared.given.Given.{Given}
 use Rattle.mf_value.specs.declared.value.Value.{Value}
 use Rattle.mf_resolve.specs.Refusals.{refused_errors, refused_from}
 use Rattle.mf_resolve.specs.Resolving.{Ends, Evaluates, ResolvesOptions, ScopeState, Steps, bound_below, call_below, with_error, with_errors}
-use Rattle.mf_resolve.specs.Settings.{no_settings, settings_after, settings_from}
+use Rattle.mf_resolve.specs.Settings.{named_options, no_settings, settings_after, settings_from}
 use Rattle.mf_resolve.specs.declared.settings.Settings.{Settings}
 use Rattle.mf_resolve.proofs.Adding.{and_both, same_node}
 use Rattle.mf_resolve.proofs.Steps.{owned, then_own, told, traced}
@@ -24,26 +27,18 @@ use Rattle.mf_resolve.proofs.Tracing.{given_holds}
 
 -- What options come to, together.
 
-append_nil : {X : Type 0} → (xs : List X) → xs ++ [] ≡ xs
-append_nil [] = refl
-append_nil (x ∷ xs) = ap (λ xs. x ∷ xs) (append_nil xs)
-
-append_one : {X : Type 0} → (xs : List X) (y : X) (ys : List X) → (xs ++ y ∷ []) ++ ys ≡ xs ++ y ∷ ys
-append_one [] y ys = refl
-append_one (x ∷ xs) y ys = ap (λ xs. x ∷ xs) (append_one xs y ys)
-
 abbrev given_of : Handed → Given
 given_of option = option.given
 
 given_step : (place : ℕ) (before : Settings) (outcome : Outcome) (rest : List Given) (others : List Handed) → rest ≡ (settings_after before outcome).given ++ map given_of others →
     rest ≡ before.given ++ map given_of (handed_by place outcome ++ others)
-given_step place before (handed given) rest others is = is ∙ append_one before.given given (map given_of others)
+given_step place before (handed given) rest others is = is ∙ append_snoc before.given given (map given_of others)
 given_step place before (directed dir) rest others is = is
 given_step place before (identified id) rest others is = is
 given_step place before passed_over rest others is = is
 
 given_after : (options : List Optioned) (place : ℕ) (before : Settings) → (settings_from before options).given ≡ before.given ++ map given_of (handed_from place options)
-given_after [] place before = sym (append_nil before.given)
+given_after [] place before = sym (append-nil before.given)
 given_after (option ∷ options) place before =
     given_step place before option.outcome _ (handed_from (place + 1) options) (given_after options (place + 1) (settings_after before option.outcome))
 
@@ -71,6 +66,18 @@ id_all (option ∷ options) before =
 
 pub given_is : (settings : Settings) (options : List Optioned) → settings ≡ settings_from no_settings options → settings.given ≡ given_options options
 given_is settings options is = ap (λ (s : Settings). s.given) is ∙ given_after options 0 no_settings
+
+pub id_is : (settings : Settings) (options : List Optioned) → settings ≡ settings_from no_settings options → settings.id ≡ id_set None options
+id_is settings options is = ap (λ (s : Settings). s.id) is ∙ id_all options no_settings
+
+-- the options of markup
+named_handed : (options : List Handed) → named_options (map given_of options) ≡ map markup_option options
+named_handed [] = refl
+named_handed (option ∷ options) = ap (λ pairs. markup_option option ∷ pairs) (named_handed options)
+
+pub named_are : (settings : Settings) (options : List Optioned) → settings ≡ settings_from no_settings options →
+    named_options settings.given ≡ map markup_option (handed_from 0 options)
+named_are settings options is = ap named_options (given_is settings options is) ∙ named_handed (handed_from 0 options)
 
 value_is : (settings : Settings) (options : List Optioned) (value : Value) → settings ≡ settings_from no_settings options →
     with_direction settings.dir (record value { forced = false; id = settings.id }) ≡ value_after options value

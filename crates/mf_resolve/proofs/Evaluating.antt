@@ -1,11 +1,12 @@
 -- An expression: its operand, then its function.
-use Rattle.std.proofs.Common.{◌≡◌, ℕ, true, false, List, [], ◌∷◌, ◌++◌, Option, Some, None, refl, sym, ap, ◌∙◌}
+use Rattle.std.proofs.Common.{◌≡◌, ℕ, true, false, List, [], ◌++◌, Option, Some, None, refl, sym, ap, ◌∙◌}
+use Rattle.std.proofs.lemmas.List.{append-nil}
 use Rattle.mf_tree.specs.declared.expression.Call.{Call}
 use Rattle.mf_tree.specs.declared.expression.Expression.{Expression}
 use Rattle.mf_tree.specs.declared.expression.Operand.TheVariants as node_operand
 use Rattle.mf_tree.specs.declared.name.Name.{Name}
 use Rattle.mf_value.specs.Meaning.{Meaning}
-use Rattle.mf_value.specs.Traces.{Node, Placed, Trace, after_operand, at_operand, fallback, fallback_source, function_trace, operand_or, operand_trace, plain_text, variable_value}
+use Rattle.mf_value.specs.Traces.{Node, Trace, after_operand, at_operand, fallback, fallback_source, function_trace, operand_or, operand_trace, plain_text, variable_value}
 use Rattle.mf_value.specs.declared.value.Value.{Value}
 use Rattle.mf_resolve.specs.Resolving.{Evaluates, IsHeld, Keeps, ResolvesOperand, ScopeState, Steps, Uses, bound_below, call_below, expression_below, is_fallback_value, operand_of, trace_faults, trace_value}
 use Rattle.mf_resolve.specs.Sources.{kept_value, source_value}
@@ -15,10 +16,6 @@ use Rattle.mf_resolve.specs.declared.variable.Source.{Source}
 use Rattle.mf_resolve.proofs.Fallback.{behind_operand, called_for, shown_for}
 use Rattle.mf_resolve.proofs.Optioning.{rebased}
 use Rattle.mf_resolve.proofs.Steps.{both, nothing, told, traced}
-
-append_nil : (xs : List Placed) → xs ++ [] ≡ xs
-append_nil [] = refl
-append_nil (x ∷ xs) = ap (λ xs. x ∷ xs) (append_nil xs)
 
 -- Operands.
 
@@ -100,4 +97,4 @@ module _ (meaning : Meaning) (inner limit : ℕ) (old mid : ScopeState) (express
   evaluated_operand value is at value_is =
       told meaning limit old mid (λ node. (after node).faults) Said (λ node. value ≡ (after node).value) (λ node said. value_is ∙ sym (after_is node None is at said).1)
       (traced meaning limit old mid (λ node. trace_faults (trace_at node)) (λ node. (after node).faults) Said
-      (λ node said. sym ((after_is node None is at said).0 ∙ append_nil (trace_faults (trace_at node)))) first)
+      (λ node said. sym ((after_is node None is at said).0 ∙ append-nil (trace_faults (trace_at node)))) first)

@@ -1,5 +1,6 @@
 -- What stands before a call in an expression's trace.
 use Rattle.std.proofs.Common.{◌≡◌, ℕ, Bool, true, false, cond, List, [], ◌∷◌, ◌++◌, Option, Some, None, refl, sym, ap, ◌∙◌, inl, inr}
+use Rattle.std.proofs.lemmas.List.{append-nil, append_assoc}
 use Rattle.std.proofs.lemmas.Bool.{cases_Bool}
 use Rattle.mf_text.specs.declared.arguments.Argued.{Argued}
 use Rattle.mf_tree.specs.declared.expression.Call.{Call}
@@ -10,14 +11,6 @@ use Rattle.mf_value.specs.declared.called.CallFault.{CallFault}
 use Rattle.mf_value.specs.declared.called.Called.{Called}
 use Rattle.mf_value.specs.declared.value.Value.{Value}
 use Rattle.mf_resolve.specs.Resolving.{is_fallback_value, trace_faults, trace_value}
-
-append_assoc : {X : Type 0} → (xs ys zs : List X) → (xs ++ ys) ++ zs ≡ xs ++ (ys ++ zs)
-append_assoc [] ys zs = refl
-append_assoc (x ∷ xs) ys zs = ap (λ xs. x ∷ xs) (append_assoc xs ys zs)
-
-append_nil : {X : Type 0} → (xs : List X) → xs ++ [] ≡ xs
-append_nil [] = refl
-append_nil (x ∷ xs) = ap (λ xs. x ∷ xs) (append_nil xs)
 
 module _ (meaning : Meaning) (arguments : List (List ℕ × Argued)) (bound : List Bound) (node : Node) (expression : Expression) where
   -- an operand that is a fallback
@@ -51,7 +44,7 @@ module _ (meaning : Meaning) (arguments : List (List ℕ × Argued)) (bound : Li
       (let t : Trace = function_trace meaning arguments bound node expression operand before function in
       let u : Trace = function_trace meaning arguments bound node expression operand [] function in
       (t.faults ≡ before ++ u.faults) × (t.value ≡ u.value))
-  behind_operand operand before None = (sym (append_nil before), refl)
+  behind_operand operand before None = (sym (append-nil before), refl)
   behind_operand operand before (Some function) =
       let options : List Optioned = option_traces meaning arguments of_function bound node function.options in
       let called : Called = meaning.called function.name operand (given_options options) in

@@ -1,5 +1,6 @@
 -- The options of a call, one after the other.
 use Rattle.std.proofs.Common.{◌≡◌, ◌+◌, ℕ, Bool, true, false, List, [], ◌∷◌, ◌++◌, take, length, Option, Some, None, refl, sym, ap, subst, ◌∙◌, arith}
+use Rattle.std.proofs.lemmas.List.{append-nil, append_assoc}
 use Rattle.std.proofs.lemmas.Grind.{flat_map-append}
 use Rattle.mf_text.specs.declared.arguments.Argued.{Argued}
 use Rattle.mf_tree.specs.Faults.{identifier_text}
@@ -65,14 +66,6 @@ taken_no : (old new : Settings) (outcome : Option Outcome) → Takes old new out
 taken_no old new None takes = (refl, takes.1)
 taken_no old new (Some outcome) takes = let clash : false ≡ true = takes.0 in cc
 
-append_nil : (xs : List Placed) → xs ++ [] ≡ xs
-append_nil [] = refl
-append_nil (x ∷ xs) = ap (λ xs. x ∷ xs) (append_nil xs)
-
-append_assoc : (xs ys zs : List Placed) → (xs ++ ys) ++ zs ≡ xs ++ (ys ++ zs)
-append_assoc [] ys zs = refl
-append_assoc (x ∷ xs) ys zs = ap (λ xs. x ∷ xs) (append_assoc xs ys zs)
-
 module _ (meaning : Meaning) (limit : ℕ) (old : ScopeState) (directs : Bool) (before : List OptionNode) (last : OptionNode) where
   abbrev bound : List Bound
   bound = bound_below meaning old limit
@@ -100,7 +93,7 @@ module _ (meaning : Meaning) (limit : ℕ) (old : ScopeState) (directs : Bool) (
   faults_with_last node =
       ap option_faults (with_last node)
       ∙ flat_map-append (λ (option : Optioned). option.faults) (traces before node) (last_trace node ∷ [])
-      ∙ ap (λ back. option_faults (traces before node) ++ back) (append_nil (last_trace node).faults)
+      ∙ ap (λ back. option_faults (traces before node) ++ back) (append-nil (last_trace node).faults)
 
   settings_with_last : (node : Node) → settings_from no_settings (traces (before ++ last ∷ []) node) ≡ settings_after (settings_from no_settings (traces before node)) (last_trace node).outcome
   settings_with_last node = ap (settings_from no_settings) (with_last node) ∙ settings_more (traces before node) no_settings (last_trace node)

@@ -1,7 +1,7 @@
 -- The errors of refused options.
 use Rattle.std.proofs.Common.{◌≡◌, ◌≢◌, ◌==◌, ◌+◌, ◌<◌, ◌≤◌, ℕ, zero, suc, set, slice_get, inl, inr, arith, Bool, true, false, cond, ◌||◌, List, [], ◌∷◌, ◌++◌, take, length, get_or, Some, refl, ap, sym, ◌∙◌}
 use Rattle.std.proofs.lemmas.Bool.{cases_Bool, eq-eqb, eqb-true}
-use Rattle.std.proofs.lemmas.List.{length-take-le, take_more}
+use Rattle.std.proofs.lemmas.List.{length-take-le, take_more, append-nil, append_assoc}
 use Rattle.mf_tree.specs.Faults.{identifier_text}
 use Rattle.mf_tree.specs.declared.fault.Fault.{Fault}
 use Rattle.mf_tree.specs.declared.fault.Kind.TheVariants.{BadOption}
@@ -18,10 +18,6 @@ none_from place (option ∷ given) = none_from (place + 1) given
 
 pub none_refused : (given : List Given) → refused_errors [] given ≡ []
 none_refused given = none_from 0 given
-
-append_nil : (xs : List Fault) → xs ++ [] ≡ xs
-append_nil [] = refl
-append_nil (x ∷ xs) = ap (λ xs. x ∷ xs) (append_nil xs)
 
 -- the errors after one option more
 refused_last : (refused : List CallFault) (options : List Given) (place : ℕ) (option : Given) →
@@ -46,10 +42,6 @@ refused_last refused (own ∷ options) place option =
 pub same_some : (a b : Bool) → Some a ≡ Some b → a ≡ b
 same_some a b is = cc
 
-append_assoc : (xs ys zs : List Fault) → (xs ++ ys) ++ zs ≡ xs ++ (ys ++ zs)
-append_assoc [] ys zs = refl
-append_assoc (x ∷ xs) ys zs = ap (λ xs. x ∷ xs) (append_assoc xs ys zs)
-
 module _ (refused : List CallFault) (given : List Given) (i : ℕ) (option : Given) (inside : i < length given) (is : option ≡ get_or given i option) (first : List Fault) where
   errors_more : refused_errors refused (take (i + 1) given)
       ≡ refused_errors refused (take i given) ++ cond (is_refused refused i) (record { kind = BadOption; of = identifier_text option.name } ∷ []) []
@@ -72,7 +64,7 @@ module _ (refused : List CallFault) (given : List Given) (i : ℕ) (option : Giv
   pub none_more : (faults : List Fault) → is_refused refused i ≡ false → faults ≡ first ++ refused_errors refused (take i given) → faults ≡ first ++ refused_errors refused (take (i + 1) given)
   none_more faults unmet before =
       before
-      ∙ ap (λ errors. first ++ errors) (sym (append_nil (refused_errors refused (take i given))))
+      ∙ ap (λ errors. first ++ errors) (sym (append-nil (refused_errors refused (take i given))))
       ∙ ap (λ b. first ++ (refused_errors refused (take i given) ++ cond b (record { kind = BadOption; of = identifier_text option.name } ∷ []) [])) (sym unmet)
       ∙ ap (λ errors. first ++ errors) (sym errors_more)
 
@@ -85,7 +77,7 @@ refused_more refused i fault place inside is =
 
 pub none_behind : (faults : List Fault) (refused : List CallFault) (given : List Given) → refused ≡ [] → faults ≡ faults ++ refused_errors refused given
 none_behind faults refused given is =
-    sym (append_nil faults) ∙ ap (λ errors. faults ++ errors) (sym (ap (λ refused. refused_errors refused given) is ∙ none_refused given))
+    sym (append-nil faults) ∙ ap (λ errors. faults ++ errors) (sym (ap (λ refused. refused_errors refused given) is ∙ none_refused given))
 
 -- The marks of refused options, after one fault more.
 

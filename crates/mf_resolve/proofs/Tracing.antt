@@ -87,7 +87,7 @@ module _ (test : Placed → Bool) (node : Node) (own : (spot : Spot) (kind : Kin
         let trace : Trace = option_value_trace meaning arguments bound node place option.value in
         optioned_holds place option trace.faults (option_outcome owner option (option_text trace.value.content)) (value_holds bound place option.value holds)
 
-    options_hold : (owner : Owner) (bound : List Bound) (place : ℕ) (options : List OptionNode) → of_bound test bound ≡ true → list_all test (option_faults (option_traces_from meaning arguments owner bound node place options)) ≡ true
+    pub options_hold : (owner : Owner) (bound : List Bound) (place : ℕ) (options : List OptionNode) → of_bound test bound ≡ true → list_all test (option_faults (option_traces_from meaning arguments owner bound node place options)) ≡ true
     options_hold owner bound place [] holds = refl
     options_hold owner bound place (option ∷ options) holds = all_append test _ _ (option_holds owner bound place option holds) (options_hold owner bound (place + 1) options holds)
 

@@ -1,5 +1,5 @@
 -- The errors of the options that a call refuses, without their places: for private clauses.
-use Rattle.std.specs.Prelude.{◌+◌, ℕ, List, [], ◌∷◌, if◌then◌else◌}
+use Rattle.std.specs.Prelude.{◌≡◌, ◌<◌, ◌+◌, ℕ, Bool, List, [], ◌∷◌, slice_get, Some, if◌then◌else◌}
 use Rattle.mf_tree.specs.Faults.{identifier_text}
 use Rattle.mf_tree.specs.declared.fault.Fault.{Fault}
 use Rattle.mf_tree.specs.declared.fault.Kind.TheVariants.{BadOption}
@@ -15,3 +15,7 @@ refused_from place refused (given ∷ others) =
 
 abbrev pub refused_errors : List CallFault → List Given → List Fault
 refused_errors refused given = refused_from 0 refused given
+
+-- of so many options each is marked where the call refuses it
+abbrev pub AreMarks : List CallFault → ℕ → List Bool → Type 0
+AreMarks refused count marks = (place : ℕ) → place < count → slice_get marks place ≡ Some (is_refused refused place)

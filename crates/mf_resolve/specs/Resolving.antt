@@ -195,3 +195,28 @@ pub record Ends (expression : Expression) (old new : ScopeState) (settings : Set
       added ≡ map without_place (called_trace node expression [] options called).faults
   pub value_is : (node : Node) (options : List Optioned) → settings ≡ settings_from no_settings options →
       value ≡ (called_trace node expression [] options called).value
+
+-- The same as clauses say them, each at whatever place it may stand.
+
+abbrev pub ResolvesExpression : Meaning → ℕ → ℕ → ScopeState → ScopeState → Expression → Value → Type 0
+ResolvesExpression meaning inner limit old new expression value =
+    Evaluates meaning limit old new (expression_below meaning inner limit old expression) value
+
+abbrev pub ResolvesDeclaration : Meaning → ℕ → ScopeState → ScopeState → Declaration → Value → Type 0
+ResolvesDeclaration meaning place old new declaration value = Evaluates meaning place old new (declared_below meaning place old declaration) value
+
+abbrev pub ResolvesCall : Meaning → ℕ → ScopeState → ScopeState → Expression → Call → Resolved → Value → Type 0
+ResolvesCall meaning limit old new expression call operand value =
+    Evaluates meaning limit old new (call_below meaning limit old expression call (operand_of old.resolved operand)) value
+
+abbrev pub ResolvesPlace : Meaning → ScopeState → ScopeState → ℕ → Type 0
+ResolvesPlace meaning old new place = (outer : ℕ) → place < outer → Resolves meaning outer old new place
+
+abbrev pub FindsVariable : Meaning → ℕ → ScopeState → ScopeState → Name → Source → Type 0
+FindsVariable meaning limit old new name found = (spot : Spot) (outer : ℕ) → limit ≤ outer → Uses meaning limit outer old new name spot found
+
+abbrev pub FindsOperand : Meaning → ℕ → ScopeState → ScopeState → Operand → Resolved → Type 0
+FindsOperand meaning limit old new operand resolved = (outer : ℕ) → limit ≤ outer → ResolvesOperand meaning limit outer old new operand resolved
+
+abbrev pub FindsOption : Meaning → ℕ → ScopeState → ScopeState → OptionValue → Option (List ℕ) → Type 0
+FindsOption meaning limit old new option text = (place : ℕ) → ResolvesOption meaning limit old new option place text

@@ -3,6 +3,7 @@ use Rattle.std.specs.Prelude.{◌≡◌, ◌+◌, nat_lt, ℕ, List, [], ◌∷�
 use Rattle.std.specs.Borrow.{Bor}
 use Rattle.std.specs.BTreeMap.{BTreeMap, get}
 use Rattle.std.specs.declared.cmp.Ordering.{Ordering}
+use Rattle.mf_text.specs.Arguments.{argument_named}
 use Rattle.mf_text.specs.Order.{byte_cmp}
 use Rattle.mf_text.specs.declared.arguments.Argued.{Argued}
 use Rattle.mf_text.specs.declared.direction.Direction.{Direction}
@@ -11,6 +12,7 @@ use Rattle.mf_tree.specs.Faults.{name_of, variable_text}
 use Rattle.mf_tree.specs.declared.message.Declaration.{Declaration}
 use Rattle.mf_tree.specs.declared.name.Name.{Name}
 use Rattle.mf_value.specs.Traces.{argument_value, fallback}
+use Rattle.mf_value.specs.Values.{option_text}
 use Rattle.mf_value.specs.declared.value.Value.{Value}
 use Rattle.mf_resolve.specs.declared.variable.Source.{Source}
 use Rattle.mf_resolve.specs.declared.variable.Source.TheVariants.{Declared, Argument, Nothing}
@@ -65,3 +67,17 @@ abbrev pub source_value : Direction → List (Option Value) → Name → Source 
 source_value dir resolved name (Declared place) = kept_value (slice_get resolved place)
 source_value dir resolved name (Argument argued) = Some (argument_value dir argued.now)
 source_value dir resolved name Nothing = Some (fallback (variable_text name))
+
+-- what a variable stands for where the declarations before a place count
+abbrev pub IsFound : List Declaration → List (List ℕ × Argued) → ℕ → Name → Source → Type 0
+IsFound declarations arguments limit name found =
+    IsSource (place_below limit (place_from 0 name declarations)) (argument_named arguments name.value) found
+
+-- the value of what a variable stands for, where it is there
+abbrev pub IsValueOf : Direction → List (Option Value) → Name → Source → Value → Type 0
+IsValueOf dir resolved name found value = (known : Value) → source_value dir resolved name found ≡ Some known → value ≡ known
+
+-- its option text
+abbrev pub IsTextOf : List (Option Value) → Source → Option (List ℕ) → Type 0
+IsTextOf resolved found text =
+    (dir : Direction) (name : Name) (value : Value) → source_value dir resolved name found ≡ Some value → text ≡ option_text value.content

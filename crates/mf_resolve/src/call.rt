@@ -1,9 +1,8 @@
 //! Calls of functions.
 
 ghost use Rattle.std.specs.Prelude.{◌≡◌, ◌<◌, ◌≤◌, ◌++◌, ℕ, Some, length, slice_get, IfOk, OnOk};
-ghost use Rattle.mf_resolve.specs.Refusals.{refused_errors};
-ghost use Rattle.mf_value.specs.Traces.{is_refused};
-ghost use Rattle.mf_resolve.specs.Resolving.{Ends, Evaluates, IsHeld, call_below, operand_of};
+ghost use Rattle.mf_resolve.specs.Refusals.{AreMarks, refused_errors};
+ghost use Rattle.mf_resolve.specs.Resolving.{Ends, IsHeld, ResolvesCall, operand_of};
 ghost use Rattle.mf_value.specs.Meaning.{IsNoFallback};
 
 use crate::expression::Resolved;
@@ -31,11 +30,12 @@ impl<'a> Scope<'a> {
         requires within { limit ≤ length self.old.declarations }
         requires held { IsHeld self.old.resolved operand.now }
         requires no_fallback { IsNoFallback (operand_of self.old.resolved operand.now) }
-        ensures { IfOk result (λ value. Evaluates (F.meaning functions.now) limit self.old self.new
-            (call_below (F.meaning functions.now) limit self.old expression.now call.now (operand_of self.old.resolved operand.now)) value) }
+        ensures { IfOk result
+            (ResolvesCall (F.meaning functions.now) limit self.old self.new
+            expression.now call.now operand.now) }
     {
         if !functions.known(&call.name) {
-            self.add(Kind::UnknownFunction, function_source(alloc, &call.name)?)?;
+            self.push_fault(Kind::UnknownFunction, function_source(alloc, &call.name)?)?;
             return Ok(fallback(alloc, fallback_source(alloc, expression)?));
         }
         let settings = self.resolve_options(
@@ -65,7 +65,7 @@ impl<'a> Scope<'a> {
         settings: Settings,
         called: Called,
     ) -> Result<Value, AllocError>
-        ensures { IfOk result (λ value. Ends expression.now self.old self.new settings called value) }
+        ensures { IfOk result (Ends expression.now self.old self.new settings called) }
     {
         let Called { value, faults } = called;
         match value {
@@ -75,7 +75,7 @@ impl<'a> Scope<'a> {
             }
             None => {
                 let source = fallback_source(alloc, expression)?;
-                self.add(Kind::BadOperand, source.clone()?)?;
+                self.push_fault(Kind::BadOperand, source.clone()?)?;
                 Ok(fallback(alloc, source))
             }
         }
@@ -113,7 +113,7 @@ fn refusal_marks(
     refused: &[CallFault],
 ) -> Result<Vec<bool>, AllocError>
     ensures count { IfOk result (λ marks. length marks.items ≡ count) }
-    ensures marks { IfOk result (λ marks. (place : ℕ) → place < count → slice_get marks.items place ≡ Some (is_refused refused.now place)) }
+    ensures marks { IfOk result (λ marks. AreMarks refused.now count marks.items) }
 {
     let mut marks = vec![in alloc; false; count]?;
     for fault in refused {

@@ -3,7 +3,7 @@
 ghost use Rattle.std.specs.Prelude.{◌≡◌, ◌≤◌, ℕ, [], None, length, IfOk};
 ghost use Rattle.std.specs.Option.{option_copied, option_map};
 ghost use Rattle.mf_resolve.specs.Resolving as resolving;
-ghost use Rattle.mf_resolve.specs.Resolving.{Evaluates, IsHeld, ResolvesOperand, expression_below, operand_of};
+ghost use Rattle.mf_resolve.specs.Resolving.{FindsOperand, IsHeld, ResolvesExpression, operand_of};
 ghost use Rattle.mf_value.specs.Traces as traces;
 
 use crate::scope::Scope;
@@ -38,7 +38,9 @@ impl<'a> Scope<'a> {
     ) -> Result<Value, AllocError>
         requires operand { operand_limit ≤ limit }
         requires within { limit ≤ length self.old.declarations }
-        ensures { IfOk result (λ value. Evaluates (F.meaning functions.now) limit self.old self.new (expression_below (F.meaning functions.now) operand_limit limit self.old expression.now) value) }
+        ensures { IfOk result
+            (ResolvesExpression (F.meaning functions.now) operand_limit limit self.old self.new
+            expression.now) }
     {
         let operand = self.resolve_operand(alloc, functions, operand_limit, &expression.operand)?;
         if self.is_fallback(&operand) {
@@ -59,7 +61,8 @@ impl<'a> Scope<'a> {
         operand: &'a Operand,
     ) -> Result<Resolved, AllocError>
         requires within { limit ≤ length self.old.declarations }
-        ensures resolved { IfOk result (λ resolved. (outer : ℕ) → limit ≤ outer → ResolvesOperand (F.meaning functions.now) limit outer self.old self.new operand.now resolved) }
+        ensures resolved { IfOk result
+            (FindsOperand (F.meaning functions.now) limit self.old self.new operand.now) }
         ensures held { IfOk result (λ resolved. IsHeld self.new.resolved resolved) }
     {
         match operand {
@@ -104,7 +107,9 @@ impl<'a> Scope<'a> {
         expression: &Expression,
         operand: Resolved,
     ) -> Result<Value, AllocError>
-        ensures { IfOk result (λ value. value ≡ traces.operand_or (traces.fallback_source expression.now) (operand_of self.now.resolved operand)) }
+        ensures { IfOk result (λ value. value ≡
+            traces.operand_or (traces.fallback_source expression.now)
+            (operand_of self.now.resolved operand)) }
     {
         match operand {
             Resolved::Made(value) => Ok(value),

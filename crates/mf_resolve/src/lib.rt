@@ -6,6 +6,7 @@
 
 mod call;
 mod expression;
+mod markup;
 mod option;
 mod scope;
 mod settings;
@@ -13,4 +14,5 @@ mod sources;
 mod values;
 mod variable;
 
+pub use markup::MarkupValue;
 pub use scope::Scope;

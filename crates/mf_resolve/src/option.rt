@@ -2,13 +2,11 @@
 
 ghost use Rattle.std.specs.Prelude.{◌≡◌, ◌≤◌, ℕ, Some, None, length, IfOk};
 ghost use Rattle.mf_decimal.specs.Text.{exact_text};
-ghost use Rattle.mf_resolve.specs.Resolving.{ResolvesOption, ResolvesOptions};
-ghost use Rattle.mf_resolve.specs.Sources.{source_value};
+ghost use Rattle.mf_resolve.specs.Resolving.{FindsOption, ResolvesOptions};
+ghost use Rattle.mf_resolve.specs.Sources.{IsTextOf};
 ghost use Rattle.mf_text.specs.declared.direction.Direction.{Direction};
-ghost use Rattle.mf_tree.specs.declared.name.Name.{Name};
 ghost use Rattle.mf_value.specs.Traces.{argument_value};
 ghost use Rattle.mf_value.specs.Values.{option_text as text_of};
-ghost use Rattle.mf_value.specs.declared.value.Value.{Value};
 
 use crate::scope::Scope;
 use crate::settings::Settings;
@@ -32,13 +30,15 @@ impl<'a> Scope<'a> {
         options: &'a [OptionNode],
     ) -> Result<Settings, AllocError>
         requires within { limit ≤ length self.old.declarations }
-        ensures { IfOk result (λ settings. ResolvesOptions (F.meaning functions.now) limit self.old self.new directs options.now settings) }
+        ensures { IfOk result
+            (ResolvesOptions (F.meaning functions.now) limit self.old self.new
+            directs options.now) }
     {
         let mut settings = Settings::new(alloc);
         for option in options {
             let text = self.option_value(alloc, functions, limit, &option.value)?;
             if !settings.take(directs, option, text)? {
-                self.add(Kind::BadOption, identifier_text(alloc, &option.name)?)?;
+                self.push_fault(Kind::BadOption, identifier_text(alloc, &option.name)?)?;
             }
         }
         Ok(settings)
@@ -54,7 +54,8 @@ impl<'a> Scope<'a> {
         value: &'a OptionValue,
     ) -> Result<Option<Text>, AllocError>
         requires within { limit ≤ length self.old.declarations }
-        ensures { IfOk result (λ text. (place : ℕ) → ResolvesOption (F.meaning functions.now) limit self.old self.new value.now place text) }
+        ensures { IfOk result
+            (FindsOption (F.meaning functions.now) limit self.old self.new value.now) }
     {
         match value {
             OptionValue::Literal(text) => Ok(Some(text.clone()?)),
@@ -67,8 +68,7 @@ impl<'a> Scope<'a> {
 
     /// The option text of what a variable stands for.
     fn source_text(&self, alloc: Global, source: &Source<'a>) -> Result<Option<Text>, AllocError>
-        ensures { IfOk result (λ text. (dir : Direction) (name : Name) (value : Value) →
-            source_value dir self.now.resolved name source.now ≡ Some value → text ≡ text_of value.content) }
+        ensures { IfOk result (IsTextOf self.now.resolved source.now) }
     {
         match source {
             Source::Declared(place) => match self.kept(*place) {
@@ -83,7 +83,8 @@ impl<'a> Scope<'a> {
 
 /// The option text of an argument.
 fn argument_text(alloc: Global, argued: &Argued) -> Result<Text, AllocError>
-    ensures { IfOk result (λ text. (dir : Direction) → Some text ≡ text_of (argument_value dir argued.now).content) }
+    ensures { IfOk result
+        (λ text. (dir : Direction) → Some text ≡ text_of (argument_value dir argued.now).content) }
 {
     match argued {
         Argued::Text(text) => text.clone(),

@@ -1,20 +1,21 @@
 //! The scope of a message.
 
-ghost use Rattle.std.specs.Prelude.{◌≡◌, [], IfOk};
-ghost use Rattle.mf_resolve.specs.Gathering.{Gathers, Gives, expression_at, variable_at};
+ghost use Rattle.std.specs.Prelude.{◌≡◌, IfOk, OnOk};
+ghost use Rattle.mf_resolve.specs.Gathering.{Adds, GivesExpression, GivesMarkup, GivesVariable, Opens};
 ghost use Rattle.mf_resolve.specs.Sources.{HasPlaces};
-ghost use Rattle.mf_value.specs.ErrorLists.{no_calls};
-ghost use Rattle.mf_value.specs.Meaning.{Meaning};
 
+use crate::markup::{MarkupValue, named_options};
 use crate::variable::first_places;
 use mf_text::{Arguments, List, Text};
-use mf_tree::{Declaration, Declarations, Expression, Faults, Name};
+use mf_tree::{Declaration, Declarations, Expression, Fault, Faults, Markup, Name};
 use mf_value::{Functions, Value};
 use std::alloc::{AllocError, Global};
 use std::collections::BTreeMap;
 use std::marker::Model;
 
 /// The declarations of a message and the arguments of a request, with what was resolved so far and the errors of that.
+///
+/// After want of memory it is given up: no call on it promises anything then.
 #[derive(Drop)]
 pub struct Scope<'a> {
     pub(crate) arguments: &'a Arguments,
@@ -33,9 +34,15 @@ impl<'a> Model for Scope<'a> {
 
     ghost Value = { ScopeState };
 
-    ghost view = { λ s. record { arguments = s.arguments.now; declarations = s.declarations.now; resolved = s.resolved.items; faults = s.faults } };
+    ghost view = { λ s. record {
+      arguments = s.arguments.now;
+      declarations = s.declarations.now;
+      resolved = s.resolved.items;
+      faults = s.faults;
+    } };
 
-    ghost invariant = { λ s. HasPlaces s.declarations.now s.places × (length s.resolved.items ≡ length s.declarations.now) };
+    ghost invariant = { λ s. HasPlaces s.declarations.now s.places
+        × (length s.resolved.items ≡ length s.declarations.now) };
 }
 
 impl<'a> Scope<'a> {
@@ -45,8 +52,7 @@ impl<'a> Scope<'a> {
         declarations: &'a Declarations,
         arguments: &'a Arguments,
     ) -> Result<Scope<'a>, AllocError>
-        ensures made { IfOk result (λ scope. (scope.arguments ≡ arguments.now) × (scope.declarations ≡ declarations.now)) }
-        ensures gathers { IfOk result (λ scope. (meaning : Meaning) → Gathers meaning scope no_calls) }
+        ensures { IfOk result (λ scope. Opens scope declarations.now arguments.now) }
     {
         let declarations = declarations.as_slice();
         let places = first_places(alloc, declarations)?;
@@ -70,7 +76,8 @@ impl<'a> Scope<'a> {
         functions: &F,
         expression: &'a Expression,
     ) -> Result<Value, AllocError>
-        ensures { IfOk result (λ value. Gives (F.meaning functions.now) self.old self.new (expression_at (F.meaning functions.now) self.old expression.now) value) }
+        ensures { IfOk result
+            (GivesExpression (F.meaning functions.now) self.old self.new expression.now) }
     {
         let limit = self.declarations.len();
         self.expression_under(alloc, functions, limit, limit, expression)
@@ -83,11 +90,43 @@ impl<'a> Scope<'a> {
         functions: &F,
         name: &'a Name,
     ) -> Result<Value, AllocError>
-        ensures { IfOk result (λ value. Gives (F.meaning functions.now) self.old self.new (variable_at (F.meaning functions.now) self.old name.now) value) }
+        ensures { IfOk result (GivesVariable (F.meaning functions.now) self.old self.new name.now) }
     {
         let limit = self.declarations.len();
         let source = self.use_variable(alloc, functions, limit, name)?;
         self.source_value(alloc, functions, name, &source)
+    }
+
+    /// What markup of the message's pattern comes to, by the functions of the scope's other calls. It has no direction, so
+    /// `u:dir` is refused, as is any other option of the namespace `u` but `u:id`.
+    pub fn resolve_markup<F: Functions>(
+        &mut self,
+        alloc: Global,
+        functions: &F,
+        markup: &'a Markup,
+    ) -> Result<MarkupValue, AllocError>
+        ensures { IfOk result (GivesMarkup (F.meaning functions.now) self.old self.new markup.now) }
+    {
+        let limit = self.declarations.len();
+        let settings = self.resolve_options(
+            alloc,
+            functions,
+            limit,
+            false,
+            markup.options.as_slice(),
+        )?;
+        let options = named_options(alloc, settings.given)?;
+        Ok(MarkupValue {
+            options,
+            id: settings.id,
+        })
+    }
+
+    /// Adds an error at a place of its own: that of a selector, or of a key.
+    pub fn add(&mut self, fault: Fault) -> Result<(), AllocError>
+        ensures { OnOk result (Adds self.old self.new fault) }
+    {
+        self.push_fault(fault.kind, fault.of)
     }
 
     /// The errors of what was resolved, each where it first arose.

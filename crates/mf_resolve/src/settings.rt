@@ -37,7 +37,8 @@ impl Settings {
         option: &OptionNode,
         text: Option<Text>,
     ) -> Result<bool, AllocError>
-        ensures { IfOk result (λ taken. Takes self.old self.new (traces.option_outcome (owner_of directs) option.now text) taken) }
+        ensures { IfOk result
+            (Takes self.old self.new (traces.option_outcome (owner_of directs) option.now text)) }
     {
         let Some(text) = text else {
             return Ok(false);
@@ -55,7 +56,8 @@ impl Settings {
 
     /// Takes an option of the namespace `u`.
     fn take_universal(&mut self, directs: bool, name: &Name, text: Text) -> bool
-        ensures { Takes self.old self.new (traces.universal_outcome (owner_of directs) name.now.value text) result }
+        ensures { Takes self.old self.new
+            (traces.universal_outcome (owner_of directs) name.now.value text) result }
     {
         match name.value.as_str() {
             "dir" => directs && self.take_direction(text.as_str()),
@@ -82,7 +84,8 @@ impl Settings {
 
     /// A value with what is set on it.
     pub fn put_on(self, value: Value) -> Value
-        ensures { result ≡ traces.with_direction self.dir (record value { forced = false; id = self.id }) }
+        ensures { result ≡
+            traces.with_direction self.dir (record value { forced = false; id = self.id }) }
     {
         Value {
             content: value.content,

@@ -2,11 +2,9 @@
 
 ghost use Rattle.std.specs.Prelude.{◌≡◌, ◌<◌, ◌≤◌, ℕ, Some, length, slice_get, IfOk, OnOk};
 ghost use Rattle.std.specs.Option.{option_copied};
-ghost use Rattle.mf_resolve.specs.Resolving.{Evaluates, IsKept, IsThere, Resolves, Uses, declared_below, with_error};
-ghost use Rattle.mf_resolve.specs.Sources.{HasPlaces, IsSource, place_below, kept_value, place_from, source_value};
-ghost use Rattle.mf_text.specs.Arguments.{argument_named};
+ghost use Rattle.mf_resolve.specs.Resolving.{FindsVariable, IsKept, IsThere, ResolvesDeclaration, ResolvesPlace, with_error};
+ghost use Rattle.mf_resolve.specs.Sources.{HasPlaces, IsFound, IsValueOf, kept_value};
 ghost use Rattle.mf_tree.specs.Faults as faults;
-ghost use Rattle.mf_value.specs.Traces.{Spot};
 
 use crate::scope::Scope;
 use crate::sources::variable_text;
@@ -57,7 +55,7 @@ fn name_of(declaration: &Declaration) -> &Name
 impl<'a> Scope<'a> {
     /// What a variable stands for where the declarations before a place count.
     fn source(&self, limit: usize, name: &'a Name) -> Source<'a>
-        ensures { IsSource (place_below limit (place_from 0 name.now self.now.declarations)) (argument_named self.now.arguments name.now.value) result }
+        ensures { IsFound self.now.declarations self.now.arguments limit name.now result }
     {
         let value = &name.value;
         match self.places.get(&value) {
@@ -80,13 +78,17 @@ impl<'a> Scope<'a> {
     ) -> Result<Source<'a>, AllocError>
         requires within { limit ≤ length self.old.declarations }
         ensures there { IfOk result (λ source. IsThere self.new.resolved source) }
-        ensures used { IfOk result (λ source. (spot : Spot) (outer : ℕ) → limit ≤ outer → Uses (F.meaning functions.now) limit outer self.old self.new name.now spot source) }
+        ensures used { IfOk result
+            (FindsVariable (F.meaning functions.now) limit self.old self.new name.now) }
     {
         let source = self.source(limit, name);
         match source {
             Source::Declared(place) => self.resolve_declaration(alloc, functions, place)?,
             Source::Argument(_) => {}
-            Source::Nothing => self.add(Kind::UnresolvedVariable, variable_text(alloc, name)?)?,
+            Source::Nothing => self.push_fault(
+                Kind::UnresolvedVariable,
+                variable_text(alloc, name)?,
+            )?,
         }
         Ok(source)
     }
@@ -101,7 +103,8 @@ impl<'a> Scope<'a> {
     ) -> Result<(), AllocError>
         requires within { place < length self.old.declarations }
         ensures kept { OnOk result (IsKept self.new.resolved place) }
-        ensures resolved { OnOk result ((outer : ℕ) → place < outer → Resolves (F.meaning functions.now) outer self.old self.new place) }
+        ensures resolved { OnOk result
+            (ResolvesPlace (F.meaning functions.now) self.old self.new place) }
     {
         if self.resolved[place].is_some() {
             return Ok(());
@@ -122,8 +125,9 @@ impl<'a> Scope<'a> {
         declaration: &'a Declaration,
     ) -> Result<Value, AllocError>
         requires within { place ≤ length self.old.declarations }
-        ensures { IfOk result (λ value. Evaluates (F.meaning functions.now) place self.old self.new
-            (declared_below (F.meaning functions.now) place self.old declaration.now) value) }
+        ensures { IfOk result
+            (ResolvesDeclaration (F.meaning functions.now) place self.old self.new
+            declaration.now) }
     {
         match declaration {
             Declaration::Input { expression, .. } => {
@@ -153,7 +157,8 @@ impl<'a> Scope<'a> {
         name: &Name,
         source: &Source<'a>,
     ) -> Result<Value, AllocError>
-        ensures { IfOk result (λ value. (known : Value) → source_value (F.meaning functions.now).direction self.now.resolved name.now source.now ≡ Some known → value ≡ known) }
+        ensures { IfOk result
+            (IsValueOf (F.meaning functions.now).direction self.now.resolved name.now source.now) }
     {
         match source {
             Source::Declared(place) => match self.kept(*place) {
@@ -166,7 +171,7 @@ impl<'a> Scope<'a> {
     }
 
     /// One error more.
-    pub fn add(&mut self, kind: Kind, of: Text) -> Result<(), AllocError>
+    pub fn push_fault(&mut self, kind: Kind, of: Text) -> Result<(), AllocError>
         ensures { OnOk result (self.new ≡ with_error self.old (record { kind = kind; of = of })) }
     {
         self.faults.push(Fault { kind, of })

@@ -6,7 +6,7 @@ ghost use Rattle.mf_value.specs.Meaning.{IsTextOrNumber};
 use mf_functions::{BuiltIns, shown_text};
 use mf_locale::LocaleRecord;
 use mf_parse::{ParseError, parse};
-use mf_resolve::Scope;
+use mf_resolve::{MarkupValue, Scope};
 use mf_text::{Argued, Arguments, Direction, Text};
 use mf_tree::{Body, Faults, Message, Piece};
 use mf_value::{Content, Value};
@@ -52,9 +52,16 @@ fn resolved(
     match &message.body {
         Body::Pattern(pieces) => {
             for piece in pieces.as_slice() {
-                if let Piece::Expression(expression) = piece {
-                    let value = scope.resolve_expression(alloc, &functions, expression)?;
-                    push_value(alloc, &mut answer, record, &value)?;
+                match piece {
+                    Piece::Text(_) => {}
+                    Piece::Expression(expression) => {
+                        let value = scope.resolve_expression(alloc, &functions, expression)?;
+                        push_value(alloc, &mut answer, record, &value)?;
+                    }
+                    Piece::Markup(markup) => {
+                        let value = scope.resolve_markup(alloc, &functions, markup)?;
+                        push_markup(&mut answer, &value)?;
+                    }
                 }
             }
         }
@@ -75,9 +82,7 @@ fn push_value(
     record: &LocaleRecord,
     value: &Value,
 ) -> Result<(), AllocError> {
-    if !answer.as_str().is_empty() {
-        answer.push_str(" | ")?;
-    }
+    push_bar(answer)?;
     match &value.content {
         Content::Fallback(source) => {
             answer.push('{')?;
@@ -97,7 +102,34 @@ fn push_value(
             Direction::Unknown => "!auto",
         })?;
     }
-    if let Some(id) = &value.id {
+    push_id(answer, &value.id)
+}
+
+/// The options of markup.
+fn push_markup(answer: &mut String, value: &MarkupValue) -> Result<(), AllocError> {
+    push_bar(answer)?;
+    answer.push('<')?;
+    for (place, option) in value.options.as_slice().iter().enumerate() {
+        if place != 0 {
+            answer.push_str(", ")?;
+        }
+        answer.push_str(option.name.as_str())?;
+        answer.push('=')?;
+        answer.push_str(option.value.as_str())?;
+    }
+    answer.push('>')?;
+    push_id(answer, &value.id)
+}
+
+fn push_bar(answer: &mut String) -> Result<(), AllocError> {
+    if !answer.as_str().is_empty() {
+        answer.push_str(" | ")?;
+    }
+    Ok(())
+}
+
+fn push_id(answer: &mut String, id: &Option<Text>) -> Result<(), AllocError> {
+    if let Some(id) = id {
         answer.push('#')?;
         answer.push_str(id.as_str())?;
     }

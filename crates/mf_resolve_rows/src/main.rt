@@ -2,8 +2,8 @@
 //! say, and prints each difference and how many there are.
 //!
 //! A row is a source and, behind `??`, its arguments: `name=text`, or `name=#number`. Behind `=>` stand what the expressions of
-//! the pattern, or the selectors, come to, and the errors. A fallback is shown as `{source}`; a direction that `u:dir` sets
-//! stands behind `!`, an id behind `#`.
+//! the pattern, or the selectors, come to, and the errors. A fallback is shown as `{source}`, and of markup its options as
+//! `<name=text, ..>`; a direction that `u:dir` sets stands behind `!`, an id behind `#`.
 #![tactic(auto)]
 
 mod asking;

@@ -14,7 +14,7 @@ use Rattle.mf_resolve.proofs.Binding.{member_at}
 use Rattle.mf_resolve.proofs.Declaring.{declared_same, resolved_before, resolved_now}
 use Rattle.mf_resolve.proofs.Using.{HasSource, declared_before, front_length, none_of, ok_map, set_at, set_other, some_of, use_argument, use_declared, use_nothing}
 use Rattle.mf_resolve.proofs.scope.Scope.+resolving.Goals as goal
-use Rattle.mf_resolve.proofs.scope.Scope.+resolving.Goals.{use_variable-in-Declared+in_ok-resolve_declaration-in-Declared, use_variable-in-Argument, use_variable-in-Nothing+in_ok-variable_text-in-Nothing+in_ok-add-in-Nothing, resolve_options-then-not-branch+in_ok-identifier_text+in_ok-add, resolve_options-else-not-branch}
+use Rattle.mf_resolve.proofs.scope.Scope.+resolving.Goals.{use_variable-in-Declared+in_ok-resolve_declaration-in-Declared, use_variable-in-Argument, use_variable-in-Nothing+in_ok-variable_text-in-Nothing+in_ok-push_fault-in-Nothing, resolve_options-then-not-branch+in_ok-identifier_text+in_ok-push_fault, resolve_options-else-not-branch}
 
 pub expression_under-returns-then-is_fallback : goal.expression_under-returns-then-is_fallback
 expression_under-returns-then-is_fallback g n c =
@@ -62,7 +62,7 @@ resolve_call-returns-then-not-known g n c =
     let meaning = g.F.Functions.meaning c.args.functions.now in
     subst (λ new. Evaluates meaning c.args.limit c.args.self.now new
     (call_below meaning c.args.limit c.args.self.now c.args.expression.now c.args.call.now (operand_of c.args.self.now.resolved c.args.operand.now)) c.fallback.result)
-    (sym c.in_ok-add.ensures)
+    (sym c.in_ok-push_fault.ensures)
     (call_unknown meaning c.args.limit c.args.self.now c.args.expression.now c.args.call.now (operand_of c.args.self.now.resolved c.args.operand.now)
     c.in_ok-function_source.field-0 c.fallback.result
     (sym c.known.ensures ∙ c.if-not-known.true)
@@ -194,8 +194,8 @@ resolve_options-loop-option-preserved g n c =
     let more : take (i + 1) options ≡ before ++ last ∷ [] = take_more options i last c.loop-option-test.true ∙ ap (λ o. before ++ o ∷ []) (sym c.option-item.is) in
     subst (λ front. ResolvesOptions meaning limit old c.if-not-branch.self c.args.directs front c.take.new.self) (sym more)
     (elim c.if-not-branch.branch [
-      | resolve_options-then-not-branch+in_ok-identifier_text+in_ok-add w ↦
-          subst (λ new. ResolvesOptions meaning limit old new c.args.directs (before ++ last ∷ []) c.take.new.self) (sym (w.self-is ∙ w.in_ok-add.ensures))
+      | resolve_options-then-not-branch+in_ok-identifier_text+in_ok-push_fault w ↦
+          subst (λ new. ResolvesOptions meaning limit old new c.args.directs (before ++ last ∷ []) c.take.new.self) (sym (w.self-is ∙ w.in_ok-push_fault.ensures))
           (one_refused meaning limit old c.args.directs before last c.loop-option.self c.option_value.new.self c.loop-option.settings c.in_ok-text.text c.loop-option.invariant value c.take.new.self
           w.in_ok-identifier_text.field-0 w.in_ok-identifier_text.ensures
           (subst (Takes c.loop-option.settings c.take.new.self (option_outcome (owner_of c.args.directs) last c.in_ok-text.text)) w.if-not-branch.true c.in_ok-take.ensures))
@@ -226,10 +226,10 @@ use_variable-returns-clause-used g n c =
           subst (λ found. Uses meaning inner outer old c.match-source.self name spot found) (sym w.in-Argument.is)
           (subst (λ new. Uses meaning inner outer old new name spot (source.Argument w.in-Argument.field-0)) (sym w.self-is)
           (use_argument meaning inner old name outer spot w.in-Argument.field-0 here))
-      | use_variable-in-Nothing+in_ok-variable_text-in-Nothing+in_ok-add-in-Nothing w ↦
+      | use_variable-in-Nothing+in_ok-variable_text-in-Nothing+in_ok-push_fault-in-Nothing w ↦
           let here = subst (HasSource meaning inner old name) w.in-Nothing.is is in
           subst (λ found. Uses meaning inner outer old c.match-source.self name spot found) (sym w.in-Nothing.is)
-          (subst (λ new. Uses meaning inner outer old new name spot source.Nothing) (sym (w.self-is ∙ w.in_ok-add-in-Nothing.ensures))
+          (subst (λ new. Uses meaning inner outer old new name spot source.Nothing) (sym (w.self-is ∙ w.in_ok-push_fault-in-Nothing.ensures))
           (use_nothing meaning inner old name outer spot w.in_ok-variable_text-in-Nothing.field-0 w.in_ok-variable_text-in-Nothing.ensures here))
     ]
 
@@ -240,5 +240,5 @@ use_variable-returns-clause-there g n c =
           subst (IsThere c.match-source.self.resolved) (sym w.in-Declared.is)
           (subst (λ (s : ScopeState). IsThere s.resolved (source.Declared w.in-Declared.place)) (sym w.self-is) w.in_ok-resolve_declaration-in-Declared.ensures.kept)
       | use_variable-in-Argument w ↦ subst (IsThere c.match-source.self.resolved) (sym w.in-Argument.is) tt
-      | use_variable-in-Nothing+in_ok-variable_text-in-Nothing+in_ok-add-in-Nothing w ↦ subst (IsThere c.match-source.self.resolved) (sym w.in-Nothing.is) tt
+      | use_variable-in-Nothing+in_ok-variable_text-in-Nothing+in_ok-push_fault-in-Nothing w ↦ subst (IsThere c.match-source.self.resolved) (sym w.in-Nothing.is) tt
     ]
