@@ -1,0 +1,6 @@
+pub mod Advancing
+pub mod Rows
+pub mod Least
+pub mod Fitting
+pub mod Together
+pub mod Valid

@@ -1,0 +1,21 @@
+-- Laws of selection.
+use Rattle.std.specs.Prelude.{◌≡◌, ℕ, List, []}
+use Rattle.mf_tree.specs.Faults.{faults}
+use Rattle.mf_tree.specs.declared.message.Body.TheVariants.{Match}
+use Rattle.mf_tree.specs.declared.message.Message.{Message}
+use Rattle.mf_tree.specs.declared.message.Variant.{Variant}
+use Rattle.mf_tree.specs.declared.name.Name.{Name}
+use Rattle.mf_value.specs.Meaning.{Meaning}
+use Rattle.mf_value.specs.Selection.{Chosen}
+use Rattle.mf_value.specs.declared.value.Value.{Value}
+use Rattle.mf_select.specs.Choosing.{CanChoose}
+
+-- a variant can be chosen in a message that the checks find nothing wrong with
+abbrev pub ValidCanChoose : Type 0
+ValidCanChoose = (message : Message) (selectors : List Name) (variants : List Variant) → message.body ≡ Match selectors variants →
+    faults message ≡ [] → CanChoose selectors variants
+
+-- one variant at most is the chosen one
+abbrev pub OneIsChosen : Type 0
+OneIsChosen = (meaning : Meaning) (values : List Value) (variants : List Variant) (place other : ℕ) →
+    Chosen meaning values variants place → Chosen meaning values variants other → place ≡ other

@@ -1,0 +1,13 @@
+//! Laws of selection, each the contract of an empty function.
+
+ghost use Rattle.mf_select.specs.Laws.{OneIsChosen, ValidCanChoose};
+
+/// A variant can be chosen in a message that the checks find nothing wrong with.
+pub fn valid_messages_can_be_chosen_from()
+    ensures { ValidCanChoose }
+{}
+
+/// One variant at most is the chosen one.
+pub fn one_variant_is_chosen()
+    ensures { OneIsChosen }
+{}
