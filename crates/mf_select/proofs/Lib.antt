@@ -4,3 +4,4 @@ pub mod Least
 pub mod Fitting
 pub mod Together
 pub mod Valid
+pub mod Telling
