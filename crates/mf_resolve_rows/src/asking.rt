@@ -1,16 +1,20 @@
 //! What a message's expressions come to.
 
-ghost use Rattle.std.specs.Prelude.{IsTrue};
+ghost use Rattle.std.specs.Prelude.{◌≡◌, [], IsTrue};
+ghost use Rattle.mf_tree.specs.Faults.{faults as faults_of};
 ghost use Rattle.mf_value.specs.Meaning.{IsTextOrNumber};
 
+use mf_check::faults;
 use mf_functions::{BuiltIns, shown_text};
 use mf_locale::LocaleRecord;
 use mf_parse::{ParseError, parse};
 use mf_resolve::{MarkupValue, Scope};
+use mf_select::choose;
 use mf_text::{Argued, Arguments, Direction, Text};
-use mf_tree::{Body, Faults, Message, Piece};
+use mf_tree::{Body, Faults, Message, Pattern, Piece};
 use mf_value::{Content, Value};
 use std::alloc::{AllocError, Global};
+use std::fmt::Write;
 
 /// The answer to a row, written as a row has it.
 pub fn answer_of(alloc: Global, record: &LocaleRecord, asked: &str) -> Result<String, AllocError> {
@@ -26,6 +30,12 @@ pub fn answer_of(alloc: Global, record: &LocaleRecord, asked: &str) -> Result<St
             arguments.insert(alloc, name, argument(alloc, value)?)?;
         }
     }
+    let errors = faults(alloc, &message)?;
+    if !errors.is_empty() {
+        let mut answer = String::from_str(alloc, "invalid")?;
+        push_faults(&mut answer, &errors)?;
+        return Ok(answer);
+    }
     resolved(alloc, record, &message, &arguments)
 }
 
@@ -39,41 +49,57 @@ fn argument(alloc: Global, value: &str) -> Result<Argued, AllocError> {
     Ok(Argued::Text(Text::of(alloc, value)?))
 }
 
-/// The values of the expressions, or of the selectors, and the errors.
+/// The position of the chosen variant, if there are any, the values of what stands in its pattern, and the errors.
 fn resolved(
     alloc: Global,
     record: &LocaleRecord,
     message: &Message,
     arguments: &Arguments,
-) -> Result<String, AllocError> {
+) -> Result<String, AllocError>
+    requires valid { faults_of message.now ≡ [] }
+{
     let functions = BuiltIns::new(record);
     let mut scope = Scope::new(alloc, &message.declarations, arguments)?;
     let mut answer = String::new(alloc);
     match &message.body {
-        Body::Pattern(pieces) => {
-            for piece in pieces.as_slice() {
-                match piece {
-                    Piece::Text(_) => {}
-                    Piece::Expression(expression) => {
-                        let value = scope.resolve_expression(alloc, &functions, expression)?;
-                        push_value(alloc, &mut answer, record, &value)?;
-                    }
-                    Piece::Markup(markup) => {
-                        let value = scope.resolve_markup(alloc, &functions, markup)?;
-                        push_markup(&mut answer, &value)?;
-                    }
-                }
-            }
-        }
-        Body::Match { selectors, .. } => {
-            for name in selectors.as_slice() {
-                let value = scope.resolve_variable(alloc, &functions, name)?;
-                push_value(alloc, &mut answer, record, &value)?;
+        Body::Pattern(pieces) => push_pieces(alloc, &mut answer, &functions, &mut scope, pieces)?,
+        Body::Match {
+            selectors,
+            variants,
+        } => {
+            let place = choose(alloc, &mut scope, &functions, selectors, variants)?;
+            write!(answer, "[{place}]")?;
+            if let Some(variant) = variants.get(place) {
+                push_pieces(alloc, &mut answer, &functions, &mut scope, &variant.pattern)?;
             }
         }
     }
     push_faults(&mut answer, scope.faults())?;
     Ok(answer)
+}
+
+/// What the expressions and the markup of a pattern come to.
+fn push_pieces<'a>(
+    alloc: Global,
+    answer: &mut String,
+    functions: &BuiltIns,
+    scope: &mut Scope<'a>,
+    pieces: &'a Pattern,
+) -> Result<(), AllocError> {
+    for piece in pieces.as_slice() {
+        match piece {
+            Piece::Text(_) => {}
+            Piece::Expression(expression) => {
+                let value = scope.resolve_expression(alloc, functions, expression)?;
+                push_value(alloc, answer, functions.place, &value)?;
+            }
+            Piece::Markup(markup) => {
+                let value = scope.resolve_markup(alloc, functions, markup)?;
+                push_markup(answer, &value)?;
+            }
+        }
+    }
+    Ok(())
 }
 
 fn push_value(
