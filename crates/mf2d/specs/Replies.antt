@@ -1,5 +1,5 @@
 -- The reply to a request at edition k of a log.
-use Rattle.std.specs.Prelude.{◌≡◌, ◌+◌, ℕ, List, Option, Some, None, Result, Ok, Err, take}
+use Rattle.std.specs.Prelude.{◌≡◌, ◌+◌, ℕ, List, [], Option, Some, None, Result, Ok, Err, take}
 use Rattle.mf_lint.specs.Lint.{Lints}
 use Rattle.mf_lint.specs.declared.linting.Linted.{Linted}
 use Rattle.mf_lint.specs.declared.linting.Linted.TheVariants.{Invalid, Valid}
@@ -26,12 +26,12 @@ abbrev pub publication_reply : ℕ → Op → Option Refusal → Reply
 publication_reply k op None = Accepted (k + 1) op
 publication_reply k op (Some refusal) = refusal_reply refusal
 
--- an answer of edition k
+-- an answer of edition k; no error is told of a formatted one, since a flat message has none
 abbrev pub answer_reply : ℕ → Answer → Reply
 answer_reply k (answers.not_yet since) = NotYet k since
 answer_reply k answers.no_message = NoMessage k
 answer_reply k answers.not_built = NotBuilt
-answer_reply k (answers.formatted tag parts) = Formatted k tag parts
+answer_reply k (answers.formatted tag parts) = Formatted k tag parts []
 
 -- what is said of a source: its canonical form, or the errors that make it invalid
 abbrev pub lint_reply : Linted → Reply

@@ -10,7 +10,7 @@ use mf_locale::{Tag, chain};
 use mf_parse::{ParseError, parse};
 use mf_parts::{Part, Parts, isolate, joined_len};
 use mf_text::{Argued, Arguments, Direction, Text};
-use mf_tree::{Body, Expression, Message, Name, Operand, Pattern, Piece};
+use mf_tree::{Body, Expression, Faults, Message, Name, Operand, Pattern, Piece};
 use mf_wire::Reply;
 use std::alloc::{AllocError, Global};
 
@@ -62,13 +62,18 @@ fn format(
     };
     let dir = edition.place_for(&found.tag).dir;
     match source_parts(alloc, item.source(), arguments)? {
-        Some(parts) => Ok(formatted(edition.number(), found.tag, isolate(alloc, parts, dir)?)),
+        Some(parts) => Ok(formatted(
+            alloc,
+            edition.number(),
+            found.tag,
+            isolate(alloc, parts, dir)?,
+        )),
         None => Ok(Reply::NotBuilt),
     }
 }
 
-/// The reply with these parts, if their text isn't too long.
-fn formatted(edition: u64, tag: Tag, parts: Parts) -> Reply
+/// The reply with these parts, if their text isn't too long. A flat message has no errors.
+fn formatted(alloc: Global, edition: u64, tag: Tag, parts: Parts) -> Reply
     ensures { result ≡ answer_reply edition (answer_of tag (Some parts)) }
 {
     if joined_len(&parts) <= LONGEST_TEXT {
@@ -76,6 +81,7 @@ fn formatted(edition: u64, tag: Tag, parts: Parts) -> Reply
             edition,
             tag,
             parts,
+            faults: Faults::new(alloc),
         }
     } else {
         Reply::NotBuilt

@@ -4,7 +4,7 @@ use Rattle.std.specs.List.{flat_map}
 use Rattle.mf_text.specs.declared.direction.Direction.{Direction}
 use Rattle.mf_text.specs.declared.direction.Direction.TheVariants.{Ltr, Rtl, Unknown}
 use Rattle.mf_parts.specs.declared.part.Part.{Part}
-use Rattle.mf_parts.specs.declared.part.Part.TheVariants.{Text, Isolate, String}
+use Rattle.mf_parts.specs.declared.part.Part.TheVariants.{Text, Isolate, String, Number, Markup, Fallback}
 
 -- U+2066, U+2067, U+2068 and U+2069
 abbrev pub left_to_right_isolate : ℕ
@@ -29,16 +29,24 @@ opening Unknown Ltr forced = Some left_to_right_isolate
 opening message Rtl forced = Some right_to_left_isolate
 opening message Unknown forced = Some first_strong_isolate
 
--- a value's part between its marks, each a part of its own
+-- the mark before a part in a message of this direction: a text, a mark and markup stand as they are, and a fallback has
+-- unknown direction
+abbrev pub part_opening : Direction → Part → Option ℕ
+part_opening message (Text text) = None
+part_opening message (Isolate mark) = None
+part_opening message (String value dir forced id) = opening message dir forced
+part_opening message (Number value dir forced id) = opening message dir forced
+part_opening message (Markup form name options id) = None
+part_opening message (Fallback source) = opening message Unknown false
+
+-- a part between its marks, each a part of its own
 abbrev pub between : Option ℕ → Part → List Part
 between None part = part ∷ []
 between (Some mark) part = Isolate mark ∷ part ∷ Isolate pop_directional_isolate ∷ []
 
 -- a part with the marks that it gets in a message of this direction
 abbrev pub isolated_part : Direction → Part → List Part
-isolated_part message (Text text) = Text text ∷ []
-isolated_part message (Isolate mark) = Isolate mark ∷ []
-isolated_part message (String value dir forced id) = between (opening message dir forced) (String value dir forced id)
+isolated_part message part = between (part_opening message part) part
 
 -- the parts of a message of this direction, each with its marks
 abbrev pub isolated : Direction → List Part → List Part

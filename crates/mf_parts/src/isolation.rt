@@ -1,5 +1,5 @@
 ghost use Rattle.std.specs.Prelude.{◌≡◌, ◌++◌, IfOk};
-ghost use Rattle.mf_parts.specs.Isolation.{between, isolated, isolated_part, opening};
+ghost use Rattle.mf_parts.specs.Isolation.{between, isolated, isolated_part, opening, part_opening};
 
 use crate::{Part, Parts};
 use mf_text::Direction;
@@ -24,15 +24,25 @@ pub fn isolate(alloc: Global, parts: Parts, message: Direction) -> Result<Parts,
 pub fn push_isolated(parts: Parts, part: Part, message: Direction) -> Result<Parts, AllocError>
     ensures { IfOk result (λ longer. longer ≡ parts ++ isolated_part message part) }
 {
-    let mark = match &part {
-        Part::String { dir, forced, .. } => opening_mark(message, *dir, *forced),
-        Part::Text(_) | Part::Isolate(_) => None,
-    };
+    let mark = part_opening(&part, message);
     push_between(parts, mark, part)
 }
 
+/// The mark before a part, if it gets marks: a fallback has unknown direction, and what is no value gets none.
+fn part_opening(part: &Part, message: Direction) -> Option<char>
+    ensures { result ≡ part_opening message part.now }
+{
+    match part {
+        Part::String { dir, forced, .. } | Part::Number { dir, forced, .. } => {
+            opening(message, *dir, *forced)
+        }
+        Part::Fallback { .. } => opening(message, Direction::Unknown, false),
+        Part::Text(_) | Part::Isolate(_) | Part::Markup { .. } => None,
+    }
+}
+
 /// The mark before a value of direction `dir`, if it gets marks.
-fn opening_mark(message: Direction, dir: Direction, forced: bool) -> Option<char>
+fn opening(message: Direction, dir: Direction, forced: bool) -> Option<char>
     ensures { result ≡ opening message dir forced }
 {
     match (message, dir) {

@@ -1,5 +1,5 @@
 ghost use Rattle.std.specs.Prelude.{◌≡◌, ◌++◌, ◌-◌, ◌^◌, min, length, IfOk, OnOk, encode_utf8_all, string_bytes};
-ghost use Rattle.mf_parts.specs.Joined.{part_text, text_of};
+ghost use Rattle.mf_parts.specs.Joined.{in_braces, part_text, text_of};
 
 use crate::{Part, Parts};
 use mf_text::Text;
@@ -24,8 +24,21 @@ fn push_part(text: &mut String, part: &Part) -> Result<(), AllocError>
     match part {
         Part::Text(piece) => text.push_str(piece.as_str()),
         Part::Isolate(mark) => text.push(*mark),
-        Part::String { value, .. } => text.push_str(value.as_str()),
+        Part::String { value, .. } | Part::Number { value, .. } => text.push_str(value.as_str()),
+        Part::Markup { .. } => Ok(()),
+        Part::Fallback { source } => push_in_braces(text, source),
     }
+}
+
+/// Puts a text in braces at the end.
+fn push_in_braces(text: &mut String, source: &Text) -> Result<(), AllocError>
+    ensures { OnOk result
+        (string_bytes text.new ≡ string_bytes text.old ++ encode_utf8_all (in_braces source.now)) }
+{
+    text.push('{')?;
+    text.push_str(source.as_str())?;
+    text.push('}')?;
+    Ok(())
 }
 
 /// The length of that text in bytes of UTF-8, or `u64::MAX` where it is longer.
@@ -46,6 +59,8 @@ fn part_len(part: &Part) -> u64
     match part {
         Part::Text(piece) => piece.as_str().len() as u64,
         Part::Isolate(mark) => mark.len_utf8() as u64,
-        Part::String { value, .. } => value.as_str().len() as u64,
+        Part::String { value, .. } | Part::Number { value, .. } => value.as_str().len() as u64,
+        Part::Markup { .. } => 0,
+        Part::Fallback { source } => source.as_str().len() as u64 + 2,
     }
 }

@@ -8,7 +8,7 @@ use Rattle.json.specs.Print.{escape_byte, token_text}
 use Rattle.json.specs.Token.{key, string}
 use Rattle.mf_wire.specs.Replies.{op_name}
 use Rattle.mf_wire.specs.declared.reply.Op.{Op}
-use Rattle.mf_wire.specs.declared.reply.Op.TheVariants.{Publish, Locale}
+use Rattle.mf_wire.specs.declared.reply.Op.TheVariants.{Publish, Locale, Handler}
 
 pub edition_size : length (token_text (key (codes "edition"))) ≡ 10
 unfolding escape_byte
@@ -22,6 +22,7 @@ pub op_size : (op : Op) → length (token_text (string (op_name op))) ≤ 9
 unfolding escape_byte
 op_size Publish = omega arith
 op_size Locale = omega arith
+op_size Handler = omega arith
 
 pub number_size : (n : ℕ) → n < 2 ^ 64 → length (decimal n) ≤ 20
 number_size n fits = length-decimal-le 20 n (omega arith) (omega arith) fits

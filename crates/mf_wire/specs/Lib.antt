@@ -1,4 +1,5 @@
--- Read in this order: the lines of an input and their JSON values; what a line asks for, by its fields; the reply lines.
+-- Read in this order: the lines of an input and their JSON values; what a line asks for, by its fields; the reply lines,
+-- whose objects are made of members.
 -- Writing is for private clauses.
 pub mod Lines
 pub mod Reading
@@ -6,5 +7,7 @@ pub mod FieldNames
 pub mod Fields
 pub mod RecordSizes
 pub mod Requests
+pub mod Members
+pub mod Parts
 pub mod Replies
 pub mod Writing

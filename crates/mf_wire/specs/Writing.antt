@@ -3,11 +3,11 @@ use Rattle.std.specs.Prelude.{◌≡◌, ℕ, List, [], ◌∷◌, ◌++◌}
 use Rattle.json.specs.Token.{Token, key}
 use Rattle.json.specs.Tree.{json_tokens}
 use Rattle.json.specs.Written.{Written}
-use Rattle.serde_json.specs.Data.{Data, number, string, unsigned, Members, no_members}
+use Rattle.serde_json.specs.Data.{Data, number, string, object, unsigned, Members, member, no_members}
 use Rattle.serde_json.specs.Written.{outline}
-use Rattle.mf_wire.specs.Replies.{number_member, text_member}
-use Rattle.mf_wire.specs.declared.writing.Member.{Member}
-use Rattle.mf_wire.specs.declared.writing.Member.TheVariants.{Number, Text}
+use Rattle.mf_wire.specs.Parts.{pair_members}
+use Rattle.mf_wire.specs.declared.row.Member.{Member}
+use Rattle.mf_wire.specs.declared.row.Member.TheVariants.{Number, Text, Texts}
 
 -- the tokens of a value
 abbrev pub data_tokens : Data → List Token
@@ -23,16 +23,18 @@ pub record WritesMember (name : List ℕ) (d : Data) (old new : Written) : Type 
   pub tokens : new.tokens ≡ old.tokens ++ key name ∷ data_tokens d
   pub before : new.before ≡ old.before
 
--- the members of an object that a row of the writer's table names, one after the other
-abbrev pub row_member : Member → Members → Members
-row_member (Number name n) others = number_member name.now n others
-row_member (Text name text) others = text_member name.now text.now others
+-- a member of a row of the writer's table: its name, and its value
+abbrev pub member_name : Member → List ℕ
+member_name (Number name n) = name.now
+member_name (Text name text) = name.now
+member_name (Texts name pairs) = name.now
 
+abbrev pub member_value : Member → Data
+member_value (Number name n) = number (unsigned n)
+member_value (Text name text) = string text.now
+member_value (Texts name pairs) = object (pair_members pairs.now)
+
+-- the members that a row names, one after the other
 abbrev pub row_members : List Member → Members
 row_members [] = no_members
-row_members (first ∷ row) = row_member first (row_members row)
-
--- a member of a row is written
-abbrev pub WritesRowMember : Member → Written → Written → Type 0
-WritesRowMember (Number name n) old new = WritesMember name.now (number (unsigned n)) old new
-WritesRowMember (Text name text) old new = WritesMember name.now (string text.now) old new
+row_members (first ∷ row) = member (member_name first) (member_value first) (row_members row)

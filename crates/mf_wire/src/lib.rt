@@ -8,9 +8,11 @@ mod accepted;
 mod field;
 mod fields;
 mod lines;
+mod part;
 mod reading;
 mod reply;
 mod request;
+mod row;
 mod size;
 mod writing;
 
@@ -18,8 +20,10 @@ pub use accepted::Accepted;
 pub use field::Field;
 pub use lines::first_line;
 pub use reading::WireError;
-pub use reply::{MEMORY_LINE, Op, Reply, reply_line};
+pub use reply::{MEMORY_LINE, Op, Reason, Reply, reply_line};
 pub use request::{Request, read_request};
 
+#[cfg(test)]
+mod reply_tests;
 #[cfg(test)]
 mod tests;

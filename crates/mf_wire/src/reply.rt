@@ -1,5 +1,5 @@
 ghost use Rattle.std.specs.Prelude.{◌≡◌, IfOk, encode_utf8_all};
-ghost use Rattle.mf_wire.specs.Replies.{op_name as op_text, op_of, reply_line as line_of};
+ghost use Rattle.mf_wire.specs.Replies.{op_name, op_of, reason_name, reply_line};
 
 use crate::field::Field;
 use crate::writing::{line_room, write_reply};
@@ -18,6 +18,8 @@ pub enum Op {
     Publish,
     /// The locale record of a tag.
     Locale,
+    /// The handler of a name.
+    Handler,
 }
 
 impl Op {
@@ -33,11 +35,39 @@ impl Op {
 
     /// Its name in a reply.
     pub(crate) fn as_str(self) -> &'static str
-        ensures { result.now ≡ op_text self }
+        ensures { result.now ≡ op_name self }
     {
         match self {
             Op::Publish => "publish",
             Op::Locale => "locale",
+            Op::Handler => "handler",
+        }
+    }
+}
+
+/// Why a handler is refused.
+#[derive(Clone, Copy, Debug, PartialEq, Eq)]
+pub enum Reason {
+    /// Its name has no namespace, or a reserved one.
+    ReservedName,
+    /// Its base is no function that handlers may have.
+    BadBase,
+    /// A preset is no option of the base, or has a value that isn't allowed.
+    BadOption,
+    /// A key of its table is there twice.
+    RepeatedKey,
+}
+
+impl Reason {
+    /// Its name in a reply.
+    pub(crate) fn as_str(self) -> &'static str
+        ensures { result.now ≡ reason_name self }
+    {
+        match self {
+            Reason::ReservedName => "reserved-name",
+            Reason::BadBase => "bad-base",
+            Reason::BadOption => "bad-option",
+            Reason::RepeatedKey => "repeated-key",
         }
     }
 }
@@ -50,11 +80,12 @@ pub enum Reply {
         edition: u64,
         op: Op,
     },
-    /// The message of this edition that stands under this tag, formatted.
+    /// The message of this edition that stands under this tag, formatted, with its errors.
     Formatted {
         edition: u64,
         tag: Tag,
         parts: Parts,
+        faults: Faults,
     },
     /// The source is valid, and this is its canonical form.
     LintValid {
@@ -63,6 +94,12 @@ pub enum Reply {
     /// The source is invalid, and these are its errors.
     LintInvalid {
         faults: Faults,
+    },
+    /// The newest edition, how many compilations of its messages were begun, and how many of these were given up.
+    Stat {
+        edition: u64,
+        starts: u64,
+        quits: u64,
     },
     /// The line is no JSON.
     BadJson,
@@ -75,6 +112,10 @@ pub enum Reply {
     BadLocale {
         field: RecordField,
         rule: Option<u32>,
+    },
+    /// The handler is refused.
+    BadHandler {
+        reason: Reason,
     },
     /// The log has so many publications, the most that it may have.
     EditionsFull {
@@ -96,6 +137,10 @@ pub enum Reply {
         edition: u64,
         since: u64,
     },
+    /// The text of the message would be longer than a reply may have it.
+    TooLong {
+        edition: u64,
+    },
 }
 
 /// The line of a request that found no memory.
@@ -103,7 +148,7 @@ pub const MEMORY_LINE: &[u8] = b"{\"error\":\"out-of-memory\"}";
 
 /// The line of a reply, without its line feed.
 pub fn reply_line(alloc: Global, reply: &Reply) -> Result<Text, AllocError>
-    ensures { IfOk result (λ line. encode_utf8_all line ≡ line_of reply.now) }
+    ensures { IfOk result (λ line. encode_utf8_all line ≡ reply_line reply.now) }
 {
     let buffer = Vec::with_capacity(alloc, line_room(reply))?;
     let mut out = Writer::new(buffer);

@@ -1,41 +1,38 @@
 //! A reply written token by token, straight into the buffer of its line: no JSON value is made of it.
 
-ghost use Rattle.std.specs.Prelude.{◌≡◌, ◌<◌, codes, IfSome, OnErr, OnOk, encode_utf8_all};
-ghost use Rattle.serde_json.specs.Data.{number, object, string, array, unsigned, no_items};
+ghost use Rattle.std.specs.Prelude.{◌≡◌, ◌<◌, [], codes, IfSome, OnErr, OnOk, encode_utf8_all};
+ghost use Rattle.serde_json.specs.Data.{string};
 ghost use Rattle.mf_parts.specs.Joined.{text_of};
-ghost use Rattle.mf_wire.specs.Replies.{fault_data, faults_data, formatted_data, invalid_data};
-ghost use Rattle.mf_wire.specs.Replies.{part_data, parts_data, plain_part, reply_data, valid_data};
-ghost use Rattle.mf_wire.specs.Writing.{Writes, WritesMember, WritesRowMember, row_members};
+ghost use Rattle.mf_wire.specs.Replies.{fault_data, faults_data, formatted_data, invalid_data, reply_data, valid_data};
+ghost use Rattle.mf_wire.specs.Writing.{Writes, WritesMember};
 ghost use Rattle.mf_wire.specs.declared.reply.Reply.TheVariants as reply;
 
 use crate::field::Field;
-use crate::reply::{Op, Reply};
+use crate::part::write_parts;
+use crate::reply::{Op, Reason, Reply};
+use crate::row::{Member, write_number, write_row, write_text};
 use json::Writer;
 use mf_locale::RecordField;
-use mf_parts::{Part, Parts, joined, joined_len};
+use mf_parts::{Part, Parts, joined};
 use mf_text::Text;
 use mf_tree::{Fault, Faults};
 use std::alloc::{AllocError, Global};
 
+/// About how many bytes a part or an error takes.
+const ITEM_ROOM: usize = 64;
+
 /// About how many bytes the line of a reply takes: enough for most lines, so that their buffer doesn't grow.
 pub(crate) fn line_room(reply: &Reply) -> usize {
-    let texts = match reply {
-        Reply::Formatted { parts, .. } => {
-            let text = (joined_len(parts) as usize).saturating_mul(2);
-            text.saturating_add(parts.len().saturating_mul(48))
+    let more = match reply {
+        Reply::Formatted { parts, faults, .. } => {
+            let items = parts.len().saturating_add(faults.len());
+            items.saturating_mul(ITEM_ROOM)
         }
         Reply::LintValid { source } => source.as_str().len(),
-        Reply::LintInvalid { faults } => faults.len().saturating_mul(64),
+        Reply::LintInvalid { faults } => faults.len().saturating_mul(ITEM_ROOM),
         _ => 0,
     };
-    texts.saturating_add(128)
-}
-
-/// A member of an object: its name, and a number or a text.
-#[derive(Clone, Copy)]
-enum Member<'a> {
-    Number(&'a str, u64),
-    Text(&'a str, &'a str),
+    more.saturating_add(128)
 }
 
 /// Writes the object of a reply.
@@ -48,64 +45,26 @@ pub(crate) fn write_reply(alloc: Global, out: &mut Writer, reply: &Reply) -> Res
             edition,
             tag,
             parts,
-        } => write_formatted(alloc, out, *edition, tag.as_text(), parts),
+            faults,
+        } => write_formatted(alloc, out, *edition, tag.as_text(), parts, faults),
         Reply::LintValid { source } => write_valid(out, source),
-        Reply::LintInvalid { faults } => write_invalid(out, faults),
+        Reply::LintInvalid { faults } => write_invalid(out, faults.as_slice()),
+        Reply::Stat {
+            edition,
+            starts,
+            quits,
+        } => write_stat(out, *edition, *starts, *quits),
         Reply::BadJson => write_row(out, &[Member::Text("error", "bad-json")]),
         Reply::BadRequest { field } => write_bad_request(out, *field),
         Reply::BadLocale { field, rule } => write_bad_locale(out, *field, *rule),
+        Reply::BadHandler { reason } => write_bad_handler(out, *reason),
         Reply::EditionsFull { entries } => write_editions_full(out, *entries),
         Reply::StoreFull { used, size } => write_store_full(out, *used, *size),
         Reply::NotBuilt => write_row(out, &[Member::Text("error", "not-built")]),
         Reply::NoMessage { edition } => write_no_message(out, *edition),
         Reply::NotYet { edition, since } => write_not_yet(out, *edition, *since),
+        Reply::TooLong { edition } => write_too_long(out, *edition),
     }
-}
-
-/// Writes an object of these members.
-fn write_row(out: &mut Writer, row: &[Member<'_>]) -> Result<(), AllocError>
-    ensures { OnOk result (Writes (object (row_members row.now)) out.old out.new) }
-{
-    out.begin_object()?;
-    for member in row {
-        write_member(out, member)?;
-    }
-    out.end_object()
-}
-
-/// Writes a member of a row.
-fn write_member(out: &mut Writer, member: &Member<'_>) -> Result<(), AllocError>
-    ensures { OnOk result (WritesRowMember member.now out.old out.new) }
-{
-    match *member {
-        Member::Number(name, n) => write_number(out, name, n),
-        Member::Text(name, text) => write_text(out, name, text),
-    }
-}
-
-/// Writes a member whose value is a text.
-fn write_text(out: &mut Writer, name: &str, text: &str) -> Result<(), AllocError>
-    ensures { OnOk result (WritesMember name.now (string text.now) out.old out.new) }
-{
-    out.key(name)?;
-    out.string(text)
-}
-
-/// Writes a member whose value is a number.
-fn write_number(out: &mut Writer, name: &str, n: u64) -> Result<(), AllocError>
-    ensures { OnOk result (WritesMember name.now (number (unsigned n)) out.old out.new) }
-{
-    out.key(name)?;
-    out.u64(n)
-}
-
-/// Writes the member of no errors.
-fn write_no_errors(out: &mut Writer) -> Result<(), AllocError>
-    ensures { OnOk result (WritesMember (codes "errors") (array no_items) out.old out.new) }
-{
-    out.key("errors")?;
-    out.begin_array()?;
-    out.end_array()
 }
 
 /// Writes the object of a publication that is accepted. It fails only where there was room for fewer than 64 bytes.
@@ -150,6 +109,19 @@ fn write_bad_locale(
         write_number(out, "rule", u64::from(rule))?;
     }
     out.end_object()
+}
+
+/// Writes the object of a handler that is refused.
+fn write_bad_handler(out: &mut Writer, reason: Reason) -> Result<(), AllocError>
+    ensures { OnOk result (Writes (reply_data (reply.BadHandler reason)) out.old out.new) }
+{
+    write_row(
+        out,
+        &[
+            Member::Text("error", "bad-handler"),
+            Member::Text("reason", reason.as_str()),
+        ],
+    )
 }
 
 /// Writes the object of a publication for which the log has too many entries.
@@ -206,19 +178,47 @@ fn write_not_yet(out: &mut Writer, edition: u64, since: u64) -> Result<(), Alloc
     )
 }
 
-/// Writes the object of a valid source.
+/// Writes the object of a message whose text is too long.
+fn write_too_long(out: &mut Writer, edition: u64) -> Result<(), AllocError>
+    ensures { OnOk result (Writes (reply_data (reply.TooLong edition)) out.old out.new) }
+{
+    write_row(
+        out,
+        &[
+            Member::Number("edition", edition),
+            Member::Text("error", "too-long"),
+        ],
+    )
+}
+
+/// Writes the object of what the newest edition has compiled.
+fn write_stat(out: &mut Writer, edition: u64, starts: u64, quits: u64) -> Result<(), AllocError>
+    ensures { OnOk result (Writes (reply_data (reply.Stat edition starts quits)) out.old out.new) }
+{
+    write_row(
+        out,
+        &[
+            Member::Number("edition", edition),
+            Member::Text("ok", "stat"),
+            Member::Number("quits", quits),
+            Member::Number("starts", starts),
+        ],
+    )
+}
+
+/// Writes the object of a valid source, which has no errors.
 fn write_valid(out: &mut Writer, source: &Text) -> Result<(), AllocError>
     ensures { OnOk result (Writes (valid_data source.now) out.old out.new) }
 {
     out.begin_object()?;
-    write_no_errors(out)?;
+    write_errors(out, &[])?;
     write_text(out, "ok", "lint")?;
     write_text(out, "source", source.as_str())?;
     out.end_object()
 }
 
 /// Writes the object of an invalid source.
-fn write_invalid(out: &mut Writer, faults: &Faults) -> Result<(), AllocError>
+fn write_invalid(out: &mut Writer, faults: &[Fault]) -> Result<(), AllocError>
     ensures { OnOk result (Writes (invalid_data faults.now) out.old out.new) }
 {
     out.begin_object()?;
@@ -228,7 +228,7 @@ fn write_invalid(out: &mut Writer, faults: &Faults) -> Result<(), AllocError>
 }
 
 /// Writes the member of errors.
-fn write_errors(out: &mut Writer, faults: &Faults) -> Result<(), AllocError>
+fn write_errors(out: &mut Writer, faults: &[Fault]) -> Result<(), AllocError>
     ensures { OnOk result (WritesMember (codes "errors") (faults_data faults.now) out.old out.new) }
 {
     out.key("errors")?;
@@ -236,11 +236,11 @@ fn write_errors(out: &mut Writer, faults: &Faults) -> Result<(), AllocError>
 }
 
 /// Writes the objects of errors.
-fn write_faults(out: &mut Writer, faults: &Faults) -> Result<(), AllocError>
+fn write_faults(out: &mut Writer, faults: &[Fault]) -> Result<(), AllocError>
     ensures { OnOk result (Writes (faults_data faults.now) out.old out.new) }
 {
     out.begin_array()?;
-    for fault in faults.as_slice() {
+    for fault in faults {
         write_fault(out, fault)?;
     }
     out.end_array()
@@ -266,16 +266,18 @@ fn write_formatted(
     edition: u64,
     tag: &Text,
     parts: &Parts,
+    faults: &Faults,
 ) -> Result<(), AllocError>
-    ensures { OnOk result (Writes (formatted_data edition tag.now parts.now) out.old out.new) }
+    ensures { OnOk result
+        (Writes (formatted_data edition tag.now parts.now faults.now) out.old out.new) }
 {
     out.begin_object()?;
     write_number(out, "edition", edition)?;
-    write_no_errors(out)?;
+    write_errors(out, faults.as_slice())?;
     write_text(out, "locale", tag.as_str())?;
     write_text(out, "ok", "format")?;
     out.key("parts")?;
-    write_parts(out, parts)?;
+    write_parts(alloc, out, parts)?;
     write_joined(alloc, out, parts)?;
     out.end_object()
 }
@@ -302,56 +304,4 @@ fn lone_text(parts: &Parts) -> Option<&str>
         [Part::String { value, .. }] => Some(value.as_str()),
         _ => None,
     }
-}
-
-/// Writes the objects of parts.
-fn write_parts(out: &mut Writer, parts: &Parts) -> Result<(), AllocError>
-    ensures { OnOk result (Writes (parts_data parts.now) out.old out.new) }
-{
-    out.begin_array()?;
-    for part in parts.as_slice() {
-        write_part(out, part)?;
-    }
-    out.end_array()
-}
-
-/// Writes the object of a part.
-fn write_part(out: &mut Writer, part: &Part) -> Result<(), AllocError>
-    ensures { OnOk result (Writes (part_data part.now) out.old out.new) }
-{
-    match part {
-        Part::Text(text) => write_plain_part(out, "text", text.as_str()),
-        Part::Isolate(mark) => {
-            let mut buffer = [0; 4];
-            let mark = mark.encode_utf8(&mut buffer);
-            write_plain_part(out, "isolate", mark)
-        }
-        Part::String {
-            value,
-            id: None,
-            ..
-        } => write_plain_part(out, "string", value.as_str()),
-        Part::String {
-            value,
-            id: Some(id),
-            ..
-        } => write_row(
-            out,
-            &[
-                Member::Text("id", id.as_str()),
-                Member::Text("kind", "string"),
-                Member::Text("value", value.as_str()),
-            ],
-        ),
-    }
-}
-
-/// Writes the object of a part that has a kind and a value.
-fn write_plain_part(out: &mut Writer, kind: &str, value: &str) -> Result<(), AllocError>
-    ensures { OnOk result (Writes (plain_part kind.now value.now) out.old out.new) }
-{
-    write_row(
-        out,
-        &[Member::Text("kind", kind), Member::Text("value", value)],
-    )
 }

@@ -1,6 +1,6 @@
 use Rattle.std.proofs.Common.{OnOk, codes, subst}
 use Rattle.serde_json.specs.Data.{object, no_members}
-use Rattle.mf_wire.specs.Replies.{text_member}
+use Rattle.mf_wire.specs.Members.{text_member}
 use Rattle.mf_wire.specs.Writing.{Writes}
 use Rattle.mf_wire.proofs.writing.write_bad_request.Goals as goal
 

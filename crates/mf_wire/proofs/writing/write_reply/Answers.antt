@@ -12,5 +12,5 @@ returns-in-NotBuilt c = rw c.in-NotBuilt.is c.write_row-in-NotBuilt.ensures
 pub returns-in-Formatted : goal.returns-in-Formatted
 returns-in-Formatted c =
     rw c.in-Formatted.is (
-    subst (λ tag. OnOk c.write_formatted.result (Writes (formatted_data c.in-Formatted.edition tag c.in-Formatted.parts) c.args.out.now c.write_formatted.new.out))
+    subst (λ tag. OnOk c.write_formatted.result (Writes (formatted_data c.in-Formatted.edition tag c.in-Formatted.parts c.in-Formatted.faults) c.args.out.now c.write_formatted.new.out))
     c.as_text.ensures.text c.write_formatted.ensures)
