@@ -127,12 +127,12 @@ fn form_name(form: Form) -> &'static str
 }
 
 /// Options in the byte order of their names.
-fn in_byte_order(alloc: Global, options: &Pairs) -> Result<OrderedPairs, AllocError>
+fn in_byte_order(alloc: Global, options: &Pairs) -> Result<Pairs, AllocError>
     ensures { IfOk result (λ ordered. ordered ≡ in_byte_order options.now) }
 {
     let mut ordered = OrderedPairs::new(alloc);
     for option in options.as_slice() {
         ordered.put(option.clone()?)?;
     }
-    Ok(ordered)
+    Ok(ordered.into_pairs())
 }

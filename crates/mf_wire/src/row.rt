@@ -1,6 +1,6 @@
 //! Objects written member by member, token by token.
 
-ghost use Rattle.std.specs.Prelude.{◌≡◌, OnOk, encode_utf8_all};
+ghost use Rattle.std.specs.Prelude.{OnOk, encode_utf8_all};
 ghost use Rattle.serde_json.specs.Data.{number, object, string, unsigned};
 ghost use Rattle.mf_wire.specs.Parts.{pair_members};
 ghost use Rattle.mf_wire.specs.Writing.{member_name, member_value, row_members, Writes, WritesMember};

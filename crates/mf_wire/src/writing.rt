@@ -1,6 +1,6 @@
 //! A reply written token by token, straight into the buffer of its line: no JSON value is made of it.
 
-ghost use Rattle.std.specs.Prelude.{◌≡◌, ◌<◌, [], codes, IfSome, OnErr, OnOk, encode_utf8_all};
+ghost use Rattle.std.specs.Prelude.{◌≡◌, ◌<◌, codes, IfSome, OnErr, OnOk, encode_utf8_all};
 ghost use Rattle.serde_json.specs.Data.{string};
 ghost use Rattle.mf_parts.specs.Joined.{text_of};
 ghost use Rattle.mf_wire.specs.Replies.{fault_data, faults_data, formatted_data, invalid_data, reply_data, valid_data};

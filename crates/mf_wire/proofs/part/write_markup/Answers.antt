@@ -23,5 +23,5 @@ pub returns : goal.returns
 returns c =
     rw c.in-Some.is (
     subst (λ d. OnOk c.write_row-in-Some.result (Writes d c.args.out.now c.write_row-in-Some.new.out))
-    (alike c.form_name.ensures c.as_str-in-Some.ensures.bytes c.as_str.ensures.bytes (c.as_slice.ensures.pairs ∙ c.in_ok-ordered.ensures))
+    (alike c.form_name.ensures c.as_str-in-Some.ensures.bytes c.as_str.ensures.bytes (c.as_slice.ensures ∙ c.in_ok-ordered.ensures))
     c.write_row-in-Some.ensures)
