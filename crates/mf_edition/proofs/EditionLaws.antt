@@ -3,7 +3,7 @@ use Rattle.std.proofs.Common.{◌≡◌, ◌+◌, Result, Ok, Err, OnOk, OnErr, 
 use Rattle.std.proofs.lemmas.List.{take-append-le}
 use Rattle.std.specs.List.{AllByRecursion, IsDistinct}
 use Rattle.mf_edition.specs.declared.change.Change.{Change}
-use Rattle.mf_edition.specs.declared.change.Change.TheVariants.{Catalogue, Locale}
+use Rattle.mf_edition.specs.declared.change.Change.TheVariants.{Catalogue, Locale, Handler}
 use Rattle.mf_edition.specs.declared.change.Entry.{Entry}
 use Rattle.mf_edition.specs.Items.{Item, item_of}
 use Rattle.mf_edition.specs.Edition.{changed, edition_after, empty_edition, is_named, is_same_name, newest_edition, next_edition, put, put_all, ChangesAreBounded, EditionState, EditionsAreNumbered, EditionsFollow, EditionsHaveDistinctNames, EditionsStay, HasDistinctNames, NewestIsLast}
@@ -38,6 +38,7 @@ HasDistinctNames-put_all items (new ∷ more) distinct = HasDistinctNames-put_al
 HasDistinctNames-changed : (items : List Item) (change : Change) → HasDistinctNames items → HasDistinctNames (changed items change)
 HasDistinctNames-changed items (Catalogue catalogue) distinct = HasDistinctNames-put_all items (map (item_of catalogue.tag) catalogue.messages) distinct
 HasDistinctNames-changed items (Locale tag place size) distinct = distinct
+HasDistinctNames-changed items (Handler handler) distinct = distinct
 
 HasDistinctNames-after : (edition : EditionState) (entries : List Entry) → HasDistinctNames edition.items → HasDistinctNames (edition_after edition entries).items
 HasDistinctNames-after edition [] distinct = distinct

@@ -1,4 +1,4 @@
--- The equality of messages, catalogues, changes and entries is true exactly where they are the same.
+-- The equality of messages, catalogues, handlers, changes and entries is true exactly where they are the same.
 use Rattle.std.proofs.Common.{◌≡◌, true, ap, sym, true≢false}
 use Rattle.std.proofs.lemmas.Bool.Decides.{Decides-eqb}
 use Rattle.std.specs.Cmp.Lexicographic.{pointwise_decides, bytes_decides}
@@ -13,8 +13,9 @@ use Rattle.mf_edition.specs.contracts.change.ChangeEq.TheImpl.Laws as change_law
 use Rattle.mf_edition.specs.contracts.change.EntryPartialEq.TheImpl as entry
 use Rattle.mf_edition.specs.contracts.change.EntryEq.TheImpl.Laws as entry_laws
 use Rattle.mf_edition.specs.declared.change.Change.{Change}
-use Rattle.mf_edition.specs.declared.change.Change.TheVariants.{Catalogue, Locale}
+use Rattle.mf_edition.specs.declared.change.Change.TheVariants.{Catalogue, Locale, Handler}
 use Rattle.mf_edition.specs.declared.change.Entry.{Entry}
+use Rattle.mf_edition.proofs.SameHandlers.{exact_handler}
 use Rattle.mf_edition.proofs.SameRecords.{both, exact, exact_record}
 
 same_item : (a b : Item) → item_eq a b ≡ true → a ≡ b
@@ -52,6 +53,11 @@ exact_catalogue = exact catalogue_eq_equiv same_catalogue
 same_change : (a b : Change) → change.ghosts.eq a b ≡ true → a ≡ b
 same_change (Catalogue a) (Catalogue b) e = ap Catalogue ((exact_catalogue a b).0 e)
 same_change (Catalogue a) (Locale tag place size) e = absurd (true≢false (sym e))
+same_change (Catalogue a) (Handler b) e = absurd (true≢false (sym e))
+same_change (Locale tag place size) (Handler b) e = absurd (true≢false (sym e))
+same_change (Handler a) (Catalogue b) e = absurd (true≢false (sym e))
+same_change (Handler a) (Locale tag place size) e = absurd (true≢false (sym e))
+same_change (Handler a) (Handler b) e = ap Handler ((exact_handler a b).0 e)
 same_change (Locale tag place size) (Catalogue b) e = absurd (true≢false (sym e))
 same_change (Locale tag place size) (Locale other_tag other_place other_size) e =
     let tags = both e in

@@ -6,7 +6,7 @@ use Rattle.std.specs.List.{AllZip}
 use Rattle.std.specs.declared.alloc.Global.{Global}
 use Rattle.std.specs.declared.sync.Arc.{Arc}
 use Rattle.mf_edition.specs.declared.change.Change.{Change}
-use Rattle.mf_edition.specs.declared.change.Change.TheVariants.{Catalogue, Locale}
+use Rattle.mf_edition.specs.declared.change.Change.TheVariants.{Catalogue, Locale, Handler}
 use Rattle.mf_edition.specs.declared.change.Entry.{Entry}
 use Rattle.mf_edition.specs.Items.{Item, item_of}
 use Rattle.mf_edition.specs.Edition.{changed, edition_after, is_named, message_count, next_edition, put, put_all, EditionState}
@@ -34,6 +34,7 @@ length-changed items (Catalogue catalogue) =
     let count = length-map catalogue.messages (item_of catalogue.tag) in
     omega arith
 length-changed items (Locale tag place size) = omega arith
+length-changed items (Handler handler) = omega arith
 
 -- and so do the changes of a log
 pub length-after : (edition : EditionState) (entries : List Entry) → length (edition_after edition entries).items ≤ length edition.items + messages_by entries

@@ -7,8 +7,11 @@ pub mod Growth
 pub mod EditionLaws
 pub mod InPlace
 pub mod RecordChain
+pub mod Lookups
+pub mod HandlerSearch
 pub mod RecordMap
 pub mod Sized
 pub mod Same
 pub mod SameRecords
+pub mod SameHandlers
 pub mod Exact

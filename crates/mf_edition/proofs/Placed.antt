@@ -21,7 +21,7 @@ pub name_cmp_total : IsTotalOrder name_cmp
 name_cmp_total = then_total (on_total (λ name. name.0) byte_cmp_total) (on_total (λ name. name.1) byte_cmp_total)
 
 -- an item has a name exactly where it compares as equal
-ordering_both : (o p : Ordering) → is_eq (ordering_then o p) ≡ (is_eq o && is_eq p)
+pub ordering_both : (o p : Ordering) → is_eq (ordering_then o p) ≡ (is_eq o && is_eq p)
 ordering_both Less p = refl
 ordering_both Equal p = refl
 ordering_both Greater p = refl
@@ -33,7 +33,7 @@ is_named-cmp tag id item =
     ∙ sym (ordering_both (byte_cmp item.tag tag) (byte_cmp item.id id))
 
 -- names that compare as equal are the same
-then_equal : (o p : Ordering) → ordering_then o p ≡ Equal → (o ≡ Equal) × (p ≡ Equal)
+pub then_equal : (o p : Ordering) → ordering_then o p ≡ Equal → (o ≡ Equal) × (p ≡ Equal)
 then_equal Less p e = cc
 then_equal Equal p e = (refl, e)
 then_equal Greater p e = cc

@@ -1,8 +1,8 @@
 -- The records of tags in a map and in a list: one that is put in, and one that is looked for.
-use Rattle.std.proofs.Common.{◌≡◌, ◌==◌, ℕ, Bool, true, false, Some, String, List, [], ◌∷◌, chars, cond, encode_utf8_all, refl, ap, sym, ◌∙◌, string_bytes}
+use Rattle.std.proofs.Common.{◌≡◌, ℕ, Some, String, List, [], ◌∷◌, chars, cond, encode_utf8_all, refl, ap, sym, ◌∙◌, string_bytes}
 use Rattle.std.proofs.lemmas.Str.{encodes-chars, IsUtf8-string_bytes}
 use Rattle.std.specs.BTreeMap.{insert_entry, is_at}
-use Rattle.std.specs.Cmp.Lexicographic.{bytes_decides, nat_list_eq_equiv, pointwise, slice_cmp, texts_ties}
+use Rattle.std.specs.Cmp.Lexicographic.{bytes_decides, nat_list_cmp_total, nat_list_eq_equiv, slice_cmp, texts_ties}
 use Rattle.std.specs.List.{AllZip}
 use Rattle.std.specs.Map.{lookup}
 use Rattle.std.specs.Ordering.{is_eq, match_ordering, nat_cmp}
@@ -13,6 +13,7 @@ use Rattle.std.specs.declared.cmp.Ordering.TheVariants.{Less, Equal, Greater}
 use Rattle.mf_locale.proofs.Truncations.{encode-IsLowerTag}
 use Rattle.mf_locale.specs.Tag.{IsLowerTag}
 use Rattle.mf_locale.specs.declared.record.LocaleRecord.{LocaleRecord}
+use Rattle.mf_edition.proofs.Lookups.{found_put}
 use Rattle.mf_edition.specs.RecordMap.{record_in, records_in}
 use Rattle.mf_edition.specs.Records.{is_for, put_record, record_of, tag_cmp, RecordsAreByTag, TaggedRecord}
 
@@ -56,33 +57,7 @@ records_shared (entry ∷ entries) [] all = absurd all
 records_shared (entry ∷ entries) (copy ∷ copies) all =
     λ i. record { tag = all.0.0 i; shared = all.0.1 i } ∷ records_shared entries copies all.1 i
 
--- what two tests of records for one tag come to in either order, where they can't both hold
-swapped : {X : Type 0} (a b : Bool) (x y z : X) → (a ≡ true → b ≡ true → ⊥) → cond a x (cond b y z) ≡ cond b y (cond a x z)
-swapped true true x y z apart = absurd (apart refl refl)
-swapped true false x y z apart = refl
-swapped false b x y z apart = refl
-
-same_test : {X : Type 0} (b : Bool) (x y z : X) → cond b x z ≡ cond b x (cond b y z)
-same_test true x y z = refl
-same_test false x y z = refl
-
-put_at : (records : List TaggedRecord) (new : TaggedRecord) (tag : List ℕ) → record_of (put_record records new) tag ≡ cond (is_for tag new) (Some new.shared) (record_of records tag)
-put_at [] new tag = refl
-put_at (next ∷ records) new tag = by (tag_cmp new.tag next.tag) refl (put_at records new tag)
-  where
-    by : (o : Ordering) → tag_cmp new.tag next.tag ≡ o → record_of (put_record records new) tag ≡ cond (is_for tag new) (Some new.shared) (record_of records tag)
-        → record_of (match_ordering o (new ∷ next ∷ records) (new ∷ records) (next ∷ put_record records new)) tag ≡ cond (is_for tag new) (Some new.shared) (record_of (next ∷ records) tag)
-    by Less is rest = refl
-    by Equal is rest =
-        same_test (is_for tag new) (Some new.shared) (Some next.shared) (record_of records tag)
-        ∙ ap (λ t. cond (is_for tag new) (Some new.shared) (cond (pointwise ◌==◌ t tag) (Some next.shared) (record_of records tag))) (same_tag new.tag next.tag is)
-    by Greater is rest =
-        ap (cond (is_for tag next) (Some next.shared)) rest
-        ∙ swapped (is_for tag next) (is_for tag new) (Some next.shared) (Some new.shared) (record_of records tag)
-        (λ one other. apart ((bytes_decides next.tag tag).0 one) ((bytes_decides new.tag tag).0 other))
-      where
-        apart : next.tag ≡ tag → new.tag ≡ tag → ⊥
-        apart one other = let tie = texts_ties new.tag next.tag ∙ ap is_eq is in let same = (bytes_decides new.tag next.tag).1 (other ∙ sym one) in cc
-
 pub by_tag : RecordsAreByTag
-by_tag records new tag = put_at records new tag
+by_tag records new tag =
+    found_put (λ (tagged : TaggedRecord). tagged.tag) tag_cmp nat_list_cmp_total same_tag tag (is_for tag) (λ (tagged : TaggedRecord). tagged.shared)
+    (λ (tagged : TaggedRecord). texts_ties tagged.tag tag) records new

@@ -4,18 +4,21 @@ use Rattle.std.specs.List.{IsDistinct}
 use Rattle.std.specs.Cmp.Lexicographic.{pointwise}
 use Rattle.std.specs.Option.{option_or}
 use Rattle.mf_edition.specs.declared.change.Change.{Change}
-use Rattle.mf_edition.specs.declared.change.Change.TheVariants.{Catalogue, Locale}
+use Rattle.mf_edition.specs.declared.change.Change.TheVariants.{Catalogue, Locale, Handler}
 use Rattle.mf_edition.specs.declared.change.Entry.{Entry}
 use Rattle.mf_edition.specs.Catalogues.{Catalogue as Known}
+use Rattle.mf_edition.specs.Handlers.{put_handler}
 use Rattle.mf_edition.specs.Items.{Item, item_of}
 use Rattle.mf_edition.specs.Records.{put_record, TaggedRecord}
+use Rattle.mf_edition.specs.declared.handler.Handler.{Handler as Named}
 use Rattle.mf_edition.specs.declared.item.Found.{Found}
 
--- what an edition is: its number, its messages in the order of their indices, and the records of tags
+-- what an edition is: its number, its messages in the order of their indices, the records of tags, and the handlers
 pub record EditionState : Type 0 where
   pub number : ℕ
   pub items : List Item
   pub records : List TaggedRecord
+  pub handlers : List Named
 
 -- the item is that of this tag and this id
 abbrev pub is_named : List ℕ → List ℕ → Item → Bool
@@ -39,19 +42,28 @@ published items catalogue = put_all items (map (item_of catalogue.tag) catalogue
 abbrev pub changed : List Item → Change → List Item
 changed items (Catalogue catalogue) = published items catalogue
 changed items (Locale tag place size) = items
+changed items (Handler handler) = items
 
 -- the records after a change
 abbrev pub recorded : List TaggedRecord → Change → List TaggedRecord
 recorded records (Catalogue catalogue) = records
 recorded records (Locale tag place size) = put_record records (record { tag = tag; shared = place })
+recorded records (Handler handler) = records
+
+-- the handlers after a change
+abbrev pub handled : List Named → Change → List Named
+handled handlers (Catalogue catalogue) = handlers
+handled handlers (Locale tag place size) = handlers
+handled handlers (Handler handler) = put_handler handlers handler
 
 -- the number of messages that a change has
 abbrev pub message_count : Change → ℕ
 message_count (Catalogue catalogue) = length catalogue.messages
 message_count (Locale tag place size) = 0
+message_count (Handler handler) = 0
 
 abbrev pub empty_edition : EditionState
-empty_edition = record { number = 0; items = []; records = [] }
+empty_edition = record { number = 0; items = []; records = []; handlers = [] }
 
 -- the edition after one more change
 abbrev pub next_edition : EditionState → Change → EditionState
@@ -60,6 +72,7 @@ next_edition edition change =
       number = edition.number + 1;
       items = changed edition.items change;
       records = recorded edition.records change;
+      handlers = handled edition.handlers change;
     }
 
 -- the edition after entries

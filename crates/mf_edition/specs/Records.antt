@@ -8,6 +8,7 @@ use Rattle.mf_locale.specs.Chain.{chain_of}
 use Rattle.mf_locale.specs.Records.{root_record}
 use Rattle.mf_locale.specs.declared.record.LocaleRecord.{LocaleRecord}
 use Rattle.mf_text.specs.Ordered.{put_ordered}
+use Rattle.mf_edition.specs.Lookups.{found_by}
 
 -- the locale record of a tag
 pub record TaggedRecord : Type 0 where
@@ -28,9 +29,7 @@ is_for tag tagged = pointwise ◌==◌ tagged.tag tag
 
 -- the record of a tag, if it has one
 abbrev pub record_of : List TaggedRecord → List ℕ → Option LocaleRecord
-record_of [] tag = None
-record_of (tagged ∷ records) tag =
-    if is_for tag tagged then Some tagged.shared else record_of records tag
+record_of records tag = found_by (is_for tag) (λ (tagged : TaggedRecord). tagged.shared) records
 
 -- the record of the first of these tags that has one
 abbrev pub first_record : List TaggedRecord → List (List ℕ) → Option LocaleRecord

@@ -1,26 +1,29 @@
 -- The bytes that changes count for, and which changes a log accepts.
 use Rattle.std.specs.Prelude.{◌≡◌, ◌<◌, ◌≤◌, ◌+◌, ◌-◌, ◌^◌, ℕ, Option, None, Some, List, [], ◌∷◌, encode_utf8_all, length, max, min, nat_le, take, if◌then◌else◌}
 use Rattle.mf_text.specs.declared.pair.Pair.{Pair}
+use Rattle.mf_tree.specs.Faults.{identifier_text}
+use Rattle.mf_value.specs.declared.handler.HandlerDef.{HandlerDef}
+use Rattle.mf_value.specs.declared.handler.HandlerDef.TheVariants.{Alias, Affix, Table}
 use Rattle.mf_edition.specs.Catalogues.{Catalogue as Known}
 use Rattle.mf_edition.specs.declared.change.Change.{Change}
-use Rattle.mf_edition.specs.declared.change.Change.TheVariants.{Catalogue, Locale}
+use Rattle.mf_edition.specs.declared.change.Change.TheVariants.{Catalogue, Locale, Handler}
 use Rattle.mf_edition.specs.declared.change.Entry.{Entry}
 use Rattle.mf_edition.specs.declared.error.PublishError.{PublishError}
 use Rattle.mf_edition.specs.declared.error.PublishError.TheVariants.{OutOfMemory}
 use Rattle.mf_edition.specs.declared.error.PublishError.TheVariants as error
 use Rattle.mf_edition.specs.declared.error.Refusal.{Refusal}
 use Rattle.mf_edition.specs.declared.error.Refusal.TheVariants.{EditionsFull, StoreFull}
+use Rattle.mf_edition.specs.declared.handler.Handler.{Handler as Named}
 use Rattle.mf_edition.specs.Edition.{message_count}
 
 -- the bytes of a text in UTF-8
 abbrev pub byte_count : List ℕ → ℕ
 byte_count text = length (encode_utf8_all text)
 
--- the bytes of the ids and the sources of messages
-abbrev pub messages_size : List Pair → ℕ
-messages_size [] = 0
-messages_size (message ∷ messages) =
-    byte_count message.name + byte_count message.value + messages_size messages
+-- the bytes of the names and the values of pairs, as of the ids and the sources of messages
+abbrev pub pairs_size : List Pair → ℕ
+pairs_size [] = 0
+pairs_size (pair ∷ pairs) = byte_count pair.name + byte_count pair.value + pairs_size pairs
 
 -- a size as it is counted and shown: at most the greatest number of 64 bits
 abbrev pub shown : ℕ → ℕ
@@ -33,12 +36,30 @@ least_size = 64
 -- the size of a publication of messages: 64 bytes, and those of the texts that it has
 abbrev pub catalogue_size : Known → ℕ
 catalogue_size catalogue =
-    shown (least_size + byte_count catalogue.tag + messages_size catalogue.messages)
+    shown (least_size + byte_count catalogue.tag + pairs_size catalogue.messages)
+
+-- the bytes of the text of a table's default, where it has one
+abbrev pub default_size : Option (List ℕ) → ℕ
+default_size None = 0
+default_size (Some text) = byte_count text
+
+-- the bytes of the texts that say what a handler does
+abbrev pub def_size : HandlerDef → ℕ
+def_size (Alias base presets) = byte_count base + pairs_size presets
+def_size (Affix base presets prefix suffix) =
+    byte_count base + pairs_size presets + byte_count prefix + byte_count suffix
+def_size (Table entries default) = pairs_size entries + default_size default
+
+-- the size of a publication of a handler: 64 bytes, those of its name as it is shown, and those of its texts
+abbrev pub handler_size : Named → ℕ
+handler_size handler =
+    shown (least_size + byte_count (identifier_text handler.name) + def_size handler.def)
 
 -- the size of a change; a locale change keeps its own
 abbrev pub size_of : Change → ℕ
 size_of (Catalogue catalogue) = catalogue_size catalogue
 size_of (Locale tag place size) = max least_size size
+size_of (Handler handler) = handler_size handler
 
 -- the sizes of the changes of a log together
 abbrev pub used_by : List Entry → ℕ

@@ -1,11 +1,12 @@
 ghost use Rattle.std.specs.Prelude.{◌≡◌, ◌≤◌, length};
 ghost use Rattle.mf_edition.specs.Sizes.{catalogue_size};
 
-use crate::Catalogue;
+use crate::size::handler_size;
+use crate::{Catalogue, SharedHandler};
 use mf_locale::{SharedRecord, Tag};
 
 /// The bytes that each change counts for beside its texts.
-const OVERHEAD: u64 = 64;
+pub(crate) const OVERHEAD: u64 = 64;
 
 /// What a publication changes.
 #[derive(Debug, PartialEq, Eq, Drop)]
@@ -19,6 +20,8 @@ pub enum Change {
         place: SharedRecord,
         size: u64,
     },
+    /// The handler of its name.
+    Handler(SharedHandler),
 }
 
 impl Change {
@@ -35,6 +38,7 @@ impl Change {
         match self {
             Change::Catalogue(catalogue) => catalogue_size(catalogue),
             Change::Locale { size, .. } => (*size).max(OVERHEAD),
+            Change::Handler(handler) => handler_size(handler.as_handler()),
         }
     }
 }

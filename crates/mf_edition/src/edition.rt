@@ -1,26 +1,32 @@
 ghost use Rattle.std.specs.Prelude.{◌≡◌, ◌<◌, ◌^◌, length, position, slice_get, IfOk, IfSome, OnErr, OnOk};
 ghost use Rattle.std.specs.Option.{option_copied};
 ghost use Rattle.mf_edition.specs.Edition.{changed, empty_edition, found_along, is_named, next_edition};
-ghost use Rattle.mf_edition.specs.Edition.{published, recorded, HasRoom};
+ghost use Rattle.mf_edition.specs.Edition.{handled, published, recorded, HasRoom};
+ghost use Rattle.mf_edition.specs.Handlers.{handler_of};
 ghost use Rattle.mf_edition.specs.Records.{place_for};
 
+use crate::handlers::Handlers;
 use crate::order::{index_of, put_all};
 use crate::record::Records;
 use crate::{Catalogue, Change, Found, Item};
 use mf_locale::{LocaleRecord, SharedRecord, Tag, Tags, root};
 use mf_text::Text;
+use mf_tree::Identifier;
+use mf_value::HandlerDef;
 use std::alloc::{AllocError, Global};
 use std::marker::Model;
 use std::sync::Arc;
 
-/// The messages and the locale records after so many changes, seen as the number of changes, the list
-/// of the messages, and the list of the records in the order of their tags.
+/// The messages, the locale records and the handlers after so many changes, seen as the number of
+/// changes, the list of the messages, the list of the records in the order of their tags, and the list of
+/// the handlers in the order of their names.
 #[derive(Debug, Drop)]
 pub struct Edition {
     number: u64,
     items: Vec<Arc<Item>>,
     order: Vec<u32>,
     records: Records,
+    handlers: Handlers,
     root: SharedRecord,
 }
 
@@ -32,12 +38,12 @@ impl Model for Edition {
 
     ghost Value = { EditionState };
 
-    ghost view = { λ e. state_of e.number e.items.items e.records };
+    ghost view = { λ e. state_of e.number e.items.items e.records e.handlers };
 
     ghost invariant = { λ e. IsKept e.items.items e.order.items × (e.root ≡ root_record) };
 }
 
-/// The same edition once more, which shares each message and each record.
+/// The same edition once more, which shares each message, each record and each handler.
 impl Clone for Edition {
     ghost is_clone = { λ original copy. copy ≡ original };
 
@@ -45,19 +51,21 @@ impl Clone for Edition {
         let items = self.items.clone()?;
         let order = self.order.clone()?;
         let records = self.records.clone()?;
+        let handlers = self.handlers.clone()?;
         let root = self.root.clone()?;
         Ok(Edition {
             number: self.number,
             items,
             order,
             records,
+            handlers,
             root,
         })
     }
 }
 
 impl Edition {
-    /// Edition 0, which has no messages and no records.
+    /// Edition 0, which has no messages, no records and no handlers.
     pub fn empty(alloc: Global) -> Result<Edition, AllocError>
         ensures { IfOk result (λ edition. edition ≡ empty_edition) }
     {
@@ -67,12 +75,13 @@ impl Edition {
             items: Vec::new(alloc),
             order: Vec::new(alloc),
             records: Records::new(alloc),
+            handlers: Handlers::new(alloc),
             root,
         })
     }
 
-    /// The edition after one more change. It shares each message and each record that the change leaves
-    /// as it is.
+    /// The edition after one more change. It shares each message, each record and each handler that the
+    /// change leaves as it is.
     pub fn next(&self, change: &Change) -> Result<Edition, AllocError>
         requires { HasRoom self.now change.now }
         ensures { IfOk result (λ edition. edition ≡ next_edition self.now change.now) }
@@ -99,11 +108,13 @@ impl Edition {
         ensures number { self.new.number ≡ self.old.number }
         ensures items { OnOk result (self.new.items ≡ changed self.old.items change.now) }
         ensures records { OnOk result (self.new.records ≡ recorded self.old.records change.now) }
+        ensures handlers { OnOk result (self.new.handlers ≡ handled self.old.handlers change.now) }
         ensures err { OnErr result (self.new ≡ self.old) }
     {
         match change {
             Change::Catalogue(catalogue) => self.put_messages(catalogue),
             Change::Locale { tag, place, .. } => self.records.put_record(tag, place),
+            Change::Handler(handler) => self.handlers.put_handler(handler),
         }
     }
 
@@ -113,6 +124,7 @@ impl Edition {
         ensures number { self.new.number ≡ self.old.number }
         ensures items { OnOk result (self.new.items ≡ published self.old.items catalogue.now) }
         ensures records { self.new.records ≡ self.old.records }
+        ensures handlers { self.new.handlers ≡ self.old.handlers }
         ensures err { OnErr result (self.new ≡ self.old) }
     {
         let new = catalogue.items().clone()?;
@@ -178,5 +190,13 @@ impl Edition {
         ensures { result.now ≡ place_for self.now.records tag.now }
     {
         self.records.place_for(self.root.as_record(), tag)
+    }
+
+    /// What the handler of a name does, if there is one. Names are equal where their values are
+    /// (Unicode TS 35, Part 9, "Names and identifiers"). It takes no memory.
+    pub fn handler(&self, name: &Identifier) -> Option<&HandlerDef>
+        ensures { option_copied result ≡ handler_of self.now.handlers name.now }
+    {
+        self.handlers.handler_of(name)
     }
 }

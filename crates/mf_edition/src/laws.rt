@@ -1,11 +1,13 @@
 //! What is so of every edition of every log. None of these does anything when it is called.
 ghost use Rattle.mf_edition.specs.Edition.{ChangesAreBounded, EditionsAreNumbered, EditionsFollow, EditionsHaveDistinctNames, EditionsStay, NewestIsLast};
 ghost use Rattle.mf_edition.specs.Equality.{IsExact};
+ghost use Rattle.mf_edition.specs.Handlers.{HandlersAreByName};
 ghost use Rattle.mf_edition.specs.Records.{RecordsAreByTag};
 ghost use Rattle.mf_edition.specs.Sizes.{LongerLogsUseMore};
 ghost use Rattle.mf_edition.specs.contracts.catalogue.CataloguePartialEq.TheImpl as catalogue;
 ghost use Rattle.mf_edition.specs.contracts.change.ChangePartialEq.TheImpl as change;
 ghost use Rattle.mf_edition.specs.contracts.change.EntryPartialEq.TheImpl as entry;
+ghost use Rattle.mf_edition.specs.contracts.handler.HandlerPartialEq.TheImpl as handler;
 ghost use Rattle.mf_edition.specs.contracts.item.ItemPartialEq.TheImpl as item;
 
 /// No two messages of an edition have one tag and one id.
@@ -43,15 +45,21 @@ pub fn records_are_by_tag()
     ensures { RecordsAreByTag }
 {}
 
+/// A handler that is published is that of its name, and every other name keeps its own.
+pub fn handlers_are_by_name()
+    ensures { HandlersAreByName }
+{}
+
 /// Of two fronts of a log the longer one uses more bytes.
 pub fn longer_logs_use_more()
     ensures { LongerLogsUseMore }
 {}
 
-/// Two messages, catalogues, changes or entries are equal exactly where they are the same.
+/// Two messages, catalogues, handlers, changes or entries are equal exactly where they are the same.
 pub fn equality_is_exact()
     ensures items { IsExact item.ghosts.eq }
     ensures catalogues { IsExact catalogue.ghosts.eq }
+    ensures handlers { IsExact handler.ghosts.eq }
     ensures changes { IsExact change.ghosts.eq }
     ensures entries { IsExact entry.ghosts.eq }
 {}

@@ -2,7 +2,9 @@ use super::*;
 use mf_locale::{LocaleRecord, SharedRecord, chain, read_tag};
 use mf_numfmt::Layout;
 use mf_plural::Rules;
-use mf_text::{Direction, Text};
+use mf_text::{Direction, Pairs, Text};
+use mf_tree::{Identifier, Name};
+use mf_value::HandlerDef;
 use std::alloc::Global;
 use std::fmt::Write;
 use std::test::Fail;
@@ -339,5 +341,49 @@ fn entries_are_equal_by_their_values(rt: HostRuntime) -> Result<(), Fail> {
     let comma = entry(1, locale(rt.alloc(), "en", ",", 77)?);
     assert!(rt; comma == entry(1, locale(rt.alloc(), "en", ",", 77)?));
     assert!(rt; comma != entry(1, locale(rt.alloc(), "en", ".", 77)?));
+    Ok(())
+}
+
+/// The handler `acme:sign`, which puts `string` between these.
+fn sign(alloc: Global, prefix: &str, suffix: &str) -> Result<Handler, Fail> {
+    Ok(Handler {
+        name: sign_name(alloc)?,
+        def: HandlerDef::Affix {
+            base: Text::of(alloc, "string")?,
+            presets: Pairs::new(alloc),
+            prefix: Text::of(alloc, prefix)?,
+            suffix: Text::of(alloc, suffix)?,
+        },
+    })
+}
+
+fn sign_name(alloc: Global) -> Result<Identifier, Fail> {
+    Ok(Identifier {
+        namespace: Some(Name::new(alloc, Text::of(alloc, "acme")?)?),
+        name: Name::new(alloc, Text::of(alloc, "sign")?)?,
+    })
+}
+
+/// The prefix of that handler in an edition, if it is there.
+fn sign_prefix<'e>(edition: &'e Edition, name: &Identifier) -> &'e str {
+    match edition.handler(name) {
+        Some(HandlerDef::Affix { prefix, .. }) => prefix.as_str(),
+        _ => "none",
+    }
+}
+
+#[test]
+fn a_handler_is_swapped(rt: HostRuntime) -> Result<(), Fail> {
+    let alloc = rt.alloc();
+    let name = sign_name(alloc)?;
+    let mut publications = Publications::new(alloc)?;
+    for (prefix, before, size) in [("<", "none", 83), ("[[", "<", 84)] {
+        assert_eq!(rt; sign_prefix(publications.newest(), &name), before);
+        let shared = SharedHandler::new(alloc, sign(alloc, prefix, " kg")?)?;
+        let change = Change::Handler(shared);
+        assert_eq!(rt; change.size(), size);
+        assert_eq!(rt; publications.publish(entry(1, change)), Ok(()));
+        assert_eq!(rt; sign_prefix(publications.newest(), &name), prefix);
+    }
     Ok(())
 }

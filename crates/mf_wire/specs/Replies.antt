@@ -29,6 +29,7 @@ op_name Handler = codes "handler"
 abbrev pub op_of : Change → Op
 op_of (change.Catalogue catalogue) = Publish
 op_of (change.Locale tag record_given size) = Locale
+op_of (change.Handler handler) = Handler
 
 abbrev pub reason_name : Reason → List ℕ
 reason_name ReservedName = codes "reserved-name"

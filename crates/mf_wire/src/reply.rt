@@ -30,6 +30,7 @@ impl Op {
         match change {
             Change::Catalogue { .. } => Op::Publish,
             Change::Locale { .. } => Op::Locale,
+            Change::Handler { .. } => Op::Handler,
         }
     }
 

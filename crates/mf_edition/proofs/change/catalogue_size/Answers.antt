@@ -2,7 +2,7 @@ use Rattle.std.proofs.Common.{◌+◌, length, map, ap, ◌∙◌, arith, take_a
 use Rattle.std.proofs.lemmas.List.{length-map}
 use Rattle.std.specs.Arc.{arc_value}
 use Rattle.mf_edition.specs.Items.{item_values, message_of}
-use Rattle.mf_edition.specs.Sizes.{byte_count, least_size, messages_size, shown}
+use Rattle.mf_edition.specs.Sizes.{byte_count, least_size, pairs_size, shown}
 use Rattle.mf_edition.proofs.Sized.{counted_size, size_more}
 use Rattle.mf_edition.proofs.change.catalogue_size.Goals as goal
 
@@ -11,7 +11,7 @@ returns-clause-counted c =
     let items = c.as_slice-item-items.result.now in
     let whole = take_all c.loop-item.item-index items c.loop-item-test.false in
     counted_size c.args.catalogue.now.tag (item_values c.items.result.now.items) c.args.catalogue.now c.loop-item.size
-    (c.loop-item.invariant ∙ ap (λ items. shown (least_size + byte_count c.args.catalogue.now.tag + messages_size (map message_of (item_values items)))) (whole ∙ c.as_slice-item-items.ensures.value))
+    (c.loop-item.invariant ∙ ap (λ items. shown (least_size + byte_count c.args.catalogue.now.tag + pairs_size (map message_of (item_values items)))) (whole ∙ c.as_slice-item-items.ensures.value))
     c.items.ensures.catalogue c.items.ensures.items
     (let count = length-map c.items.result.now.items arc_value in let len = c.items.result.now.ok.0 in let small = c.items.result.now.small in omega arith)
 

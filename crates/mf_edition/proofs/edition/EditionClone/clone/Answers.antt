@@ -29,4 +29,4 @@ invariant_of-result c =
 pub returns : goal.returns
 returns c =
     let at = (goal.at.returns c).In_ok-root in
-    record { cases = (λ i. record { number = c.self.inside.number; items = same_items at i; records = c.in_ok-records.ensures.cases i }) ∙ c.self.view_is }
+    record { cases = (λ i. record { number = c.self.inside.number; items = same_items at i; records = c.in_ok-records.ensures.cases i; handlers = c.in_ok-handlers.ensures.cases i }) ∙ c.self.view_is }
