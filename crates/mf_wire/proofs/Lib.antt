@@ -4,3 +4,4 @@ pub mod Objects
 pub mod Printed
 pub mod AcceptedSize
 pub mod Rows
+pub mod Identifiers

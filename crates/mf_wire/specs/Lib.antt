@@ -5,6 +5,7 @@ pub mod Lines
 pub mod Reading
 pub mod FieldNames
 pub mod Fields
+pub mod HandlerFields
 pub mod RecordSizes
 pub mod Requests
 pub mod Members

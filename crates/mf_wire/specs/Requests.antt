@@ -3,11 +3,15 @@ use Rattle.std.specs.Prelude.{◌≡◌, ℕ, List, chars, codes, Option, Some, 
 use Rattle.std.specs.Str.{bytes_eq}
 use Rattle.serde_json.specs.Data.{Data}
 use Rattle.serde_json.specs.Find.{get}
-use Rattle.mf_edition.specs.declared.change.Change.TheVariants.{Catalogue, Locale}
+use Rattle.mf_edition.specs.declared.change.Change.TheVariants.{Catalogue, Locale, Handler}
 use Rattle.mf_locale.specs.RecordFields.{RecordFault, bad_field, bad_rule}
 use Rattle.mf_locale.specs.RecordReading.{record_of}
 use Rattle.mf_locale.specs.declared.record.LocaleRecord.{LocaleRecord}
 use Rattle.mf_wire.specs.Fields.{string_field, tag_field, tagged, catalogue_field, object_field, arguments_of, since_of}
+use Rattle.mf_tree.specs.declared.name.Identifier.{Identifier}
+use Rattle.mf_value.specs.declared.handler.HandlerDef.{HandlerDef}
+use Rattle.mf_value.specs.declared.handler.HandlerDef.TheVariants.{Alias, Affix, Table}
+use Rattle.mf_wire.specs.HandlerFields.{default_of, identifier_field, presets_of, text_field, texts_field}
 use Rattle.mf_wire.specs.RecordSizes.{record_size}
 use Rattle.mf_wire.specs.Reading.{reading}
 use Rattle.mf_wire.specs.declared.field.Field.{Field}
@@ -15,13 +19,13 @@ use Rattle.mf_wire.specs.declared.field.Field.TheVariants as field
 use Rattle.mf_wire.specs.declared.reading.WireError.{WireError}
 use Rattle.mf_wire.specs.declared.reading.WireError.TheVariants as error
 use Rattle.mf_wire.specs.declared.reply.Reply.{Reply}
-use Rattle.mf_wire.specs.declared.reply.Reply.TheVariants.{BadJson, BadRequest, BadLocale, NotBuilt}
+use Rattle.mf_wire.specs.declared.reply.Reply.TheVariants.{BadJson, BadRequest, BadLocale}
 use Rattle.mf_wire.specs.declared.request.Request.{Request}
-use Rattle.mf_wire.specs.declared.request.Request.TheVariants.{Publish, Format, Lint}
+use Rattle.mf_wire.specs.declared.request.Request.TheVariants.{Publish, Format, Lint, Stat}
 
 -- what is asked for with the value of a field, or the refusal that names the field, where it is missing, of another kind
 -- or out of range
-abbrev pub need : {X : Type 0} → Field → Option X → (X → Result Request Reply) → Result Request Reply
+abbrev pub need : {X Y : Type 0} → Field → Option X → (X → Result Y Reply) → Result Y Reply
 need field None asked = Err (BadRequest field)
 need field (Some value) asked = asked value
 
@@ -50,6 +54,52 @@ locale_request request =
     (λ tag. need field.Record (object_field (codes "record") request)
     (λ given. record_request tag given (record_of given)))
 
+-- what an alias does: its base, and its presets
+abbrev pub alias_def : Data → Result HandlerDef Reply
+alias_def given =
+    need field.Base (text_field (codes "base") given)
+    (λ base. need field.Options (presets_of (get (codes "options") given))
+    (λ presets. Ok (Alias base presets)))
+
+-- what an affix does: the same, and a prefix and a suffix
+abbrev pub affix_def : Data → Result HandlerDef Reply
+affix_def given =
+    need field.Base (text_field (codes "base") given)
+    (λ base. need field.Options (presets_of (get (codes "options") given))
+    (λ presets. need field.Prefix (text_field (codes "prefix") given)
+    (λ prefix. need field.Suffix (text_field (codes "suffix") given)
+    (λ suffix. Ok (Affix base presets prefix suffix)))))
+
+-- what a table does: its entries, and its default
+abbrev pub table_def : Data → Result HandlerDef Reply
+table_def given =
+    need field.Entries (texts_field (codes "entries") given)
+    (λ entries. need field.Default (default_of (get (codes "default") given))
+    (λ default. Ok (Table entries default)))
+
+-- what a handler of this kind does
+abbrev pub def_by : List ℕ → Data → Result HandlerDef Reply
+def_by kind given =
+    if bytes_eq kind (codes "alias") then alias_def given else
+    (if bytes_eq kind (codes "affix") then affix_def given else
+    (if bytes_eq kind (codes "table") then table_def given else Err (BadRequest field.Kind)))
+
+-- what a handler does: its kind comes first
+abbrev pub def_of : Data → Result HandlerDef Reply
+def_of given = need field.Kind (string_field (codes "kind") given) (λ kind. def_by kind given)
+
+-- a publication of a handler of this name, or the reply that refuses what it does
+abbrev pub named_request : Identifier → Result HandlerDef Reply → Result Request Reply
+named_request name (Ok def) = Ok (Publish (Handler (record { name = name; def = def })))
+named_request name (Err refusal) = Err refusal
+
+-- a publication of a handler: an identifier and an object, then the object's own fields
+abbrev pub handler_request : Data → Result Request Reply
+handler_request request =
+    need field.Name (identifier_field (codes "name") request)
+    (λ name. need field.Def (object_field (codes "def") request)
+    (λ given. named_request name (def_of given)))
+
 -- a request for a sentence: a tag, an id, arguments, and the least edition that it may come from
 abbrev pub format_request : Data → Result Request Reply
 format_request request =
@@ -64,15 +114,15 @@ abbrev pub lint_request : Data → Result Request Reply
 lint_request request =
     need field.Source (string_field (codes "source") request) (λ source. Ok (Lint (chars source)))
 
--- what an object with this `op` asks for; two of the six aren't built yet
+-- what an object with this `op` asks for
 abbrev pub request_by : List ℕ → Data → Result Request Reply
 request_by op request =
     if bytes_eq op (codes "publish") then publish_request request else
     (if bytes_eq op (codes "format") then format_request request else
     (if bytes_eq op (codes "lint") then lint_request request else
     (if bytes_eq op (codes "locale") then locale_request request else
-    (if bytes_eq op (codes "handler") then Err NotBuilt else
-    (if bytes_eq op (codes "stat") then Err NotBuilt else Err (BadRequest field.Op))))))
+    (if bytes_eq op (codes "handler") then handler_request request else
+    (if bytes_eq op (codes "stat") then Ok Stat else Err (BadRequest field.Op))))))
 
 -- what a JSON value asks for
 abbrev pub request_from : Data → Result Request Reply
@@ -82,14 +132,14 @@ abbrev pub request_read : Option Data → Result Request Reply
 request_read None = Err BadJson
 request_read (Some value) = request_from value
 
--- the request of a line, or the reply that refuses it by what the line says: a publication may still be refused by the log
+-- the request of a line, or the reply that refuses it by what the line says: a publication may still be refused for its
+-- handler, or by the log
 abbrev pub line_request : List ℕ → Result Request Reply
 line_request line = request_read (reading line)
 
 -- the refusal is the one that is due; nothing is said of want of memory
-abbrev pub IsDue : Result Request Reply → WireError → Type 0
+abbrev pub IsDue : {X : Type 0} → Result X Reply → WireError → Type 0
 IsDue asked error.BadJson = asked ≡ Err BadJson
 IsDue asked (error.BadRequest field) = asked ≡ Err (BadRequest field)
 IsDue asked (error.BadLocale field rule) = asked ≡ Err (BadLocale field rule)
-IsDue asked error.NotBuilt = asked ≡ Err NotBuilt
 IsDue asked error.OutOfMemory = Unit {0}

@@ -7,6 +7,8 @@
 mod accepted;
 mod field;
 mod fields;
+mod handler;
+mod laws;
 mod lines;
 mod part;
 mod reading;
@@ -18,11 +20,14 @@ mod writing;
 
 pub use accepted::Accepted;
 pub use field::Field;
+pub use laws::identifiers_are_of_the_grammar;
 pub use lines::first_line;
 pub use reading::WireError;
 pub use reply::{MEMORY_LINE, Op, Reason, Reply, reply_line};
 pub use request::{Request, read_request};
 
+#[cfg(test)]
+mod handler_tests;
 #[cfg(test)]
 mod reply_tests;
 #[cfg(test)]

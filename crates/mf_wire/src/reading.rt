@@ -27,9 +27,6 @@ pub enum WireError {
         field: RecordField,
         rule: Option<u32>,
     },
-    /// The line is JSON, and asks for what isn't built yet.
-    #[error("the line asks for what isn't built yet")]
-    NotBuilt,
     /// There was no memory for the value of the line.
     #[error("out of memory")]
     OutOfMemory,

@@ -7,6 +7,7 @@ use crate::field::Field;
 use crate::fields::{
     arguments_field, catalogue_field, object_field, since_field, string_field, tag_field,
 };
+use crate::handler::handler;
 use crate::reading::{WireError, read_value};
 use crate::size::record_size;
 use mf_edition::Change;
@@ -32,6 +33,8 @@ pub enum Request {
     Lint {
         source: Text,
     },
+    /// Tell how many compilations the newest edition has begun.
+    Stat,
 }
 
 /// The request of a line.
@@ -39,7 +42,7 @@ pub enum Request {
 /// # Errors
 ///
 /// `BadJson`, `BadRequest` with the first field that is missing, of another kind or out of range, `BadLocale` with that
-/// of a locale record, `NotBuilt` and `OutOfMemory`.
+/// of a locale record, and `OutOfMemory`.
 pub fn read_request(alloc: Global, line: &[u8]) -> Result<Request, WireError>
     ensures request { IfOk result (λ request. line_request line.now ≡ Ok request) }
     ensures refused { IfErr result (IsDue (line_request line.now)) }
@@ -71,7 +74,8 @@ fn asked_by(alloc: Global, op: &str, value: &Value) -> Result<Request, WireError
         "format" => format(alloc, value),
         "lint" => lint(alloc, value),
         "locale" => locale(alloc, value),
-        "handler" | "stat" => Err(WireError::NotBuilt),
+        "handler" => handler(alloc, value),
+        "stat" => Ok(Request::Stat),
         _ => Err(WireError::BadRequest { field: Field::Op }),
     }
 }

@@ -88,13 +88,12 @@ fn refused(alloc: Global, line: &str) -> &'static str {
         Err(WireError::BadRequest { field }) => field.as_str(),
         Err(WireError::BadLocale { field, rule: None }) => field.as_str(),
         Err(WireError::BadLocale { .. }) => "a rule",
-        Err(WireError::NotBuilt) => "not built",
         Err(_) => "another error",
         Ok(_) => "read",
     }
 }
 
-// Lines that aren't objects, whose `op` is missing, of another kind or unknown, or that ask for what isn't built.
+// Lines that aren't objects, or whose `op` is missing, of another kind or unknown.
 #[test]
 fn a_wrong_op_is_named(rt: HostRuntime) -> Result<(), Fail> {
     for (line, field) in [
@@ -103,8 +102,7 @@ fn a_wrong_op_is_named(rt: HostRuntime) -> Result<(), Fail> {
         ("{}", "op"),
         ("{\"op\":1}", "op"),
         ("{\"op\":\"Lint\",\"source\":\"\"}", "op"),
-        ("{\"op\":\"handler\"}", "not built"),
-        ("{\"op\":\"stat\"}", "not built"),
+        ("{\"op\":\"Stat\"}", "op"),
     ] {
         assert_eq!(rt; refused(rt.alloc(), line), field, "{line}");
     }
