@@ -5,10 +5,10 @@ use Rattle.mf_edition.specs.declared.change.Change.{Change}
 use Rattle.mf_edition.specs.declared.change.Entry.{Entry}
 use Rattle.mf_edition.specs.declared.error.Refusal.{Refusal}
 use Rattle.mf_wire.specs.Replies.{memory_line, reply_line}
-use Rattle.mf_wire.specs.Requests.{line_request}
 use Rattle.mf_wire.specs.declared.reply.Reply.{Reply}
 use Rattle.mf_wire.specs.declared.request.Request.{Request}
-use Rattle.mf_wire.specs.declared.request.Request.TheVariants.{Format, Lint, Publish}
+use Rattle.mf_wire.specs.declared.request.Request.TheVariants.{Format, Lint, Publish, Stat}
+use Rattle.mf2d.specs.Asked.{request_of}
 use Rattle.mf2d.specs.Replies.{IsReply}
 
 -- what is known between two lines: the log of the publications that were accepted
@@ -33,6 +33,7 @@ abbrev pub added : List Entry → Result Request Reply → List Entry
 added log (Ok (Publish change)) = published log change (refusal_of log change)
 added log (Ok (Format tag id arguments since)) = []
 added log (Ok (Lint source)) = []
+added log (Ok Stat) = []
 added log (Err refusal) = []
 
 -- what is asked for has its reply at the newest edition, and the log gains what is published
@@ -47,4 +48,4 @@ pub record Serves (desk : Desk) (asked : Result Request Reply)
 -- then the log stays
 abbrev pub Answered : Desk → List ℕ → List ℕ → Desk → Type 0
 Answered desk line reply after =
-    ((reply ≡ memory_line) × (after.log ≡ desk.log)) ⊎ Serves desk (line_request line) reply after
+    ((reply ≡ memory_line) × (after.log ≡ desk.log)) ⊎ Serves desk (request_of line) reply after

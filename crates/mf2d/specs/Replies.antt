@@ -12,7 +12,7 @@ use Rattle.mf_wire.specs.declared.reply.Op.{Op}
 use Rattle.mf_wire.specs.declared.reply.Reply.{Reply}
 use Rattle.mf_wire.specs.declared.reply.Reply.TheVariants.{Accepted, EditionsFull, Formatted, LintInvalid, LintValid, NoMessage, NotBuilt, NotYet, StoreFull}
 use Rattle.mf_wire.specs.declared.request.Request.{Request}
-use Rattle.mf_wire.specs.declared.request.Request.TheVariants.{Format, Lint, Publish}
+use Rattle.mf_wire.specs.declared.request.Request.TheVariants.{Format, Lint, Publish, Stat}
 use Rattle.mf2d.specs.Answers as answers
 use Rattle.mf2d.specs.Answers.{Answer, IsAnswer, IsAnswerIn}
 
@@ -57,8 +57,9 @@ IsReplyAt log k (Publish change) reply =
 IsReplyAt log k (Format tag id arguments since) reply =
     IsFormatReply (IsAnswer log k tag id arguments since) k reply
 IsReplyAt log k (Lint source) reply = IsLintReply source reply
+IsReplyAt log k Stat reply = reply ≡ NotBuilt
 
--- the reply at edition k to what a line asks for: a request, or what the wire refuses it by
+-- the reply at edition k to what a line asks for: a request, or what refuses it, the wire or the check of its handler
 abbrev pub IsReply : List Entry → ℕ → Result Request Reply → Reply → Type 0
 IsReply log k (Ok request) reply = IsReplyAt log k request reply
 IsReply log k (Err refusal) reply = reply ≡ refusal

@@ -5,6 +5,7 @@ ghost use Rattle.mf_edition.specs.declared.error.Refusal.{Refusal};
 ghost use Rattle.mf_wire.specs.Requests as refuses;
 ghost use Rattle.mf_wire.specs.declared.reply.Reply.{Reply};
 ghost use Rattle.mf_wire.specs.declared.request.Request.{Request};
+ghost use Rattle.mf2d.specs.Asked.{is_built, publication};
 ghost use Rattle.mf2d.specs.Desks.{empty_desk, Answered, Serves};
 ghost use Rattle.mf2d.specs.Replies.{refusal_reply, IsReplyAt};
 
@@ -25,6 +26,7 @@ pub struct Desk {
 }
 
 impl Model for Desk {
+    ghost use Rattle.mf2d.specs.Asked.{is_built, publication};
     ghost use Rattle.mf2d.specs.Desks.{Desk as Known};
 
     ghost Value = { Known };
@@ -37,7 +39,7 @@ impl Clerk for Desk {
 
     fn answer(&mut self, alloc: Global, line: &[u8]) -> Result<Text, AllocError> {
         match read_request(alloc, line) {
-            Ok(Request::Publish(change)) => self.publish(alloc, change),
+            Ok(Request::Publish(change)) => self.publish_built(alloc, change),
             Ok(
                 Request::Format {
                     tag,
@@ -49,6 +51,7 @@ impl Clerk for Desk {
             Ok(Request::Lint { source }) => {
                 reply_line(alloc, &lint_reply(alloc, source.as_str())?)
             }
+            Ok(Request::Stat) => reply_line(alloc, &Reply::NotBuilt),
             Err(error) => reply_line(alloc, &refusal(error)?),
         }
     }
@@ -61,6 +64,19 @@ impl Desk {
     {
         let publications = Publications::new(alloc)?;
         Ok(Desk { publications })
+    }
+
+    /// Publishes a change, where that is built, and gives the reply line.
+    fn publish_built(&mut self, alloc: Global, change: Change) -> Result<Text, AllocError>
+        ensures ok { IfOk result (λ line. Serves self.old
+            (publication change (is_built change)) (encode_utf8_all line) self.new) }
+        ensures err { OnErr result (self.new ≡ self.old) }
+    {
+        if is_built(&change) {
+            self.publish(alloc, change)
+        } else {
+            reply_line(alloc, &Reply::NotBuilt)
+        }
     }
 
     /// Publishes a change, and gives the reply line, or gives that of why it is refused. Room for the
@@ -99,6 +115,16 @@ impl Desk {
     }
 }
 
+/// Whether such a change is published yet.
+fn is_built(change: &Change) -> bool
+    ensures { result ≡ is_built change.now }
+{
+    match change {
+        Change::Catalogue(_) | Change::Locale { .. } => true,
+        Change::Handler(_) => false,
+    }
+}
+
 /// The reply to a publication that isn't made.
 fn refused(error: PublishError) -> Result<Reply, AllocError>
     ensures reply { IfOk result (λ reply.
@@ -121,7 +147,6 @@ fn refusal(error: WireError) -> Result<Reply, AllocError>
         WireError::BadJson => Ok(Reply::BadJson),
         WireError::BadRequest { field } => Ok(Reply::BadRequest { field }),
         WireError::BadLocale { field, rule } => Ok(Reply::BadLocale { field, rule }),
-        WireError::NotBuilt => Ok(Reply::NotBuilt),
         WireError::OutOfMemory => Err(AllocError),
     }
 }

@@ -12,6 +12,8 @@ mod pipe;
 pub use command::{Command, top};
 
 #[cfg(test)]
+mod handler_lines;
+#[cfg(test)]
 mod sentences;
 #[cfg(test)]
 mod tests;
