@@ -6,8 +6,10 @@
 mod compiling;
 pub mod laws;
 mod plan;
+mod shared;
 
 pub use plan::Plan;
+pub use shared::compile;
 
 #[cfg(test)]
 mod tests;
