@@ -9,6 +9,7 @@ use crate::{Giving, Item, Learning, Place, QueueRule, Raising};
 use atomic_table::{Join, Refused, Split, Table};
 use crossbeam_utils::Backoff;
 use std::alloc::{AllocError, Global};
+use std::marker::Model;
 use std::snapshot::Snapshot;
 use std::sync::Wait;
 
@@ -23,11 +24,20 @@ const COUNT: usize = 2;
 
 /// A value in a slot that callers take in turn, and a count that they read without waiting.
 ///
-/// `T` is the value, `A` names what is done to it, `V` is what a seat knows, and `P` the client's rule.
+/// `T` is the value, `A` names what is done to it, `V` is what a seat knows, and `P` the client's rule. It is seen as the
+/// table that it stands on, which its seats name.
 #[derive(Drop)]
 pub struct Queue<T, A, V, P: QueueRule<T, V>> {
     table: Board<T, A, V, P>,
     ghost sized: { (table.shared.table_id.words ≡ 3) × (table.shared.table_id.slots ≡ 1) },
+}
+
+impl<T, A, V, P: QueueRule<T, V>> Model for Queue<T, A, V, P> {
+    ghost use Rattle.atomic_table.specs.Seated.{TableId};
+
+    ghost Value = { TableId };
+
+    ghost view = { λ q. q.table.shared.table_id };
 }
 
 impl<T: Drop, A, V, P: QueueRule<T, V>> Queue<T, A, V, P> {
@@ -40,7 +50,7 @@ impl<T: Drop, A, V, P: QueueRule<T, V>> Queue<T, A, V, P> {
         done: &A,
     ) -> Result<(Queue<T, A, V, P>, Place<T, A, V>), AllocError>
         requires { P.holds 0 value None (P.first ∷ []) }
-        ensures own { IfOk result (λ made. made.1.table_id ≡ made.0.table.shared.table_id) }
+        ensures own { IfOk result (λ made. made.1.table_id ≡ made.0) }
         ensures rests { IfOk result (λ made. IsAtRest made.1 × (taken made.1 ≡ None)) }
         ensures view { IfOk result (λ made. view made.1 ≡ P.first) }
     {
@@ -54,7 +64,7 @@ impl<T: Drop, A, V, P: QueueRule<T, V>> Queue<T, A, V, P> {
 
     // After 2^64 - 1 places it waits for ever.
     fn draw<R: Wait>(&self, rt: &R, seat: &mut Place<T, A, V>) -> u64
-        requires own { seat.old.table_id ≡ self.now.table.shared.table_id }
+        requires own { seat.old.table_id ≡ self.now }
         requires idle { IsAtRest seat.old × (taken seat.old ≡ None) }
         ensures same { IsSameSeat seat.old seat.new × (view seat.new ≡ view seat.old) }
         ensures waits { IsWaiting seat.new result }
@@ -76,7 +86,7 @@ impl<T: Drop, A, V, P: QueueRule<T, V>> Queue<T, A, V, P> {
 
     /// Waits for the turn, and takes the value.
     pub fn take<M: Learning<T, V>, R: Wait>(&self, rt: &R, seat: &mut Place<T, A, V>) -> T
-        requires own { seat.old.table_id ≡ self.now.table.shared.table_id }
+        requires own { seat.old.table_id ≡ self.now }
         requires idle { IsAtRest seat.old × (taken seat.old ≡ None) }
         requires may { MayTake P.holds seat.old.id (view seat.old) M.then }
         ensures same { IsSameSeat seat.old seat.new × IsAtRest seat.new }
@@ -100,7 +110,7 @@ impl<T: Drop, A, V, P: QueueRule<T, V>> Queue<T, A, V, P> {
 
     /// Raises the count by one for the value to come, and returns it.
     pub fn raise<M: Raising<T, V>>(&self, seat: &mut Place<T, A, V>, next: &T) -> u64
-        requires own { seat.old.table_id ≡ self.now.table.shared.table_id }
+        requires own { seat.old.table_id ≡ self.now }
         requires rests { IsAtRest seat.old }
         requires may { Holds (taken seat.old)
             (λ x count. MayRaise P.holds seat.old.id (view seat.old) count x next.now M.then) }
@@ -118,7 +128,7 @@ impl<T: Drop, A, V, P: QueueRule<T, V>> Queue<T, A, V, P> {
 
     /// Gives a value back, and ends the turn. `done` names what was done to it.
     pub fn give<M: Giving<T, A, V>>(&self, seat: &mut Place<T, A, V>, value: T, done: &A)
-        requires own { seat.old.table_id ≡ self.now.table.shared.table_id }
+        requires own { seat.old.table_id ≡ self.now }
         requires rests { IsAtRest seat.old }
         requires may { Holds (taken seat.old)
             (λ x count. MayGive P.holds seat.old.id (view seat.old) count x done.now value M.then) }
@@ -134,7 +144,7 @@ impl<T: Drop, A, V, P: QueueRule<T, V>> Queue<T, A, V, P> {
 
     /// The count. It waits for nobody.
     pub fn count<M: Learning<T, V>>(&self, seat: &mut Place<T, A, V>) -> u64
-        requires own { seat.old.table_id ≡ self.now.table.shared.table_id }
+        requires own { seat.old.table_id ≡ self.now }
         requires rests { IsAtRest seat.old }
         requires may { MayCount P.holds seat.old.id (view seat.old) M.then }
         ensures same { IsSameSeat seat.old seat.new × IsAtRest seat.new }
@@ -146,7 +156,7 @@ impl<T: Drop, A, V, P: QueueRule<T, V>> Queue<T, A, V, P> {
 
     /// A new seat, whose view is cut off from this one's.
     pub fn split<M: Split<V>>(&self, seat: &mut Place<T, A, V>) -> Place<T, A, V>
-        requires own { seat.old.table_id ≡ self.now.table.shared.table_id }
+        requires own { seat.old.table_id ≡ self.now }
         requires rests { IsAtRest seat.old }
         requires may { MaySplit P.holds seat.old.id (view seat.old)
             (M.left (view seat.old)) (M.right (view seat.old)) }
@@ -162,8 +172,8 @@ impl<T: Drop, A, V, P: QueueRule<T, V>> Queue<T, A, V, P> {
 
     /// The seat takes in what another knows, which is then no more.
     pub fn join<M: Join<V>>(&self, seat: &mut Place<T, A, V>, other: Place<T, A, V>)
-        requires own { seat.old.table_id ≡ self.now.table.shared.table_id }
-        requires other { other.table_id ≡ self.now.table.shared.table_id }
+        requires own { seat.old.table_id ≡ self.now }
+        requires other { other.table_id ≡ self.now }
         requires rests { IsAtRest seat.old }
         requires idle { IsAtRest other × (taken other ≡ None) }
         requires may { MayJoin P.holds seat.old.id (view seat.old) other.id (view other)

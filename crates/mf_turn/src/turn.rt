@@ -26,7 +26,7 @@ impl<T: Shared> Model for Turn<T> {
 
     ghost Value = { TableId };
 
-    ghost view = { λ t. t.queue.table.shared.table_id };
+    ghost view = { λ t. t.queue };
 }
 
 /// A seat at a turn, seen as the turn's name, the value that it has taken, and what it knows.
