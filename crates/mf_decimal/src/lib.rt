@@ -13,8 +13,6 @@ mod reading;
 mod rounding;
 mod shown;
 mod significand;
-#[cfg(test)]
-mod tests;
 mod whole;
 
 pub use decimal::Decimal;

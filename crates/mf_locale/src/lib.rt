@@ -22,6 +22,3 @@ pub use reading::read_record;
 pub use record::LocaleRecord;
 pub use shared::SharedRecord;
 pub use tag::{Tag, read_tag};
-
-#[cfg(test)]
-mod tests;

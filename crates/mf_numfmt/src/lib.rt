@@ -14,6 +14,3 @@ mod writing;
 pub use layout::Layout;
 pub use number::text;
 pub use options::{Grouping, Sign};
-
-#[cfg(test)]
-mod tests;

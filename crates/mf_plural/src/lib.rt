@@ -9,15 +9,11 @@ mod choice;
 mod cut;
 mod error;
 mod grammar;
-#[cfg(test)]
-mod languages;
 mod laws;
 mod lexeme;
 mod operands;
 mod reading;
 mod rule;
-#[cfg(test)]
-mod tests;
 mod token;
 mod value;
 mod word;
