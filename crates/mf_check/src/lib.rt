@@ -10,8 +10,3 @@ mod shown;
 mod variants;
 
 pub use check::faults;
-
-#[cfg(test)]
-mod building;
-#[cfg(test)]
-mod tests;

@@ -18,6 +18,3 @@ mod space;
 pub use cursor::Cursor;
 pub use ident::Ident;
 pub use laws::{identifiers_are_spelled_once, literals_are_spelled_once, names_are_spelled_once};
-
-#[cfg(test)]
-mod tests;

@@ -5,6 +5,3 @@ pub mod laws;
 mod linting;
 
 pub use linting::{Linted, lint};
-
-#[cfg(test)]
-mod tests;

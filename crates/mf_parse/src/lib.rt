@@ -16,6 +16,3 @@ mod spaces;
 
 pub use error::ParseError;
 pub use message::parse;
-
-#[cfg(test)]
-mod tests;

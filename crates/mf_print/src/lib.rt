@@ -13,6 +13,3 @@ mod pattern;
 
 pub use literal::push_quoted;
 pub use message::print;
-
-#[cfg(test)]
-mod tests;

@@ -28,6 +28,3 @@ pub type Texts = List<Text>;
 
 /// A list of names with their values, which may have a name more than once.
 pub type Pairs = List<Pair>;
-
-#[cfg(test)]
-mod tests;

@@ -20,6 +20,3 @@ pub use fault::{Fault, Faults, Kind};
 pub use message::{Body, Declaration, Declarations, Key, Keys, Message, Variant, Variants};
 pub use name::{Identifier, Name, Names};
 pub use pattern::{Form, Markup, Pattern, Piece};
-
-#[cfg(test)]
-mod tests;

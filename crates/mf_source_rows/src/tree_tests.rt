@@ -1,5 +1,6 @@
-use super::*;
+//! Names, classes of errors and forms of markup.
 use mf_text::Text;
+use mf_tree::{Form, Kind, Name};
 use std::test::Fail;
 
 // A name keeps what is written, and is compared by its normal form.
