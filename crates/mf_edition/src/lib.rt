@@ -28,6 +28,3 @@ pub use laws::{
 };
 pub use log::Log;
 pub use publications::Publications;
-
-#[cfg(test)]
-mod tests;

@@ -10,6 +10,3 @@ mod text;
 pub use isolation::{isolate, push_isolated};
 pub use part::{Part, Parts};
 pub use text::{joined, joined_len};
-
-#[cfg(test)]
-mod tests;

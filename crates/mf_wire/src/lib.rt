@@ -25,10 +25,3 @@ pub use lines::first_line;
 pub use reading::WireError;
 pub use reply::{MEMORY_LINE, Op, Reason, Reply, reply_line};
 pub use request::{Request, read_request};
-
-#[cfg(test)]
-mod handler_tests;
-#[cfg(test)]
-mod reply_tests;
-#[cfg(test)]
-mod tests;

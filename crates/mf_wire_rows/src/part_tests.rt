@@ -1,4 +1,5 @@
-use super::*;
+//! The calls of mf_parts: what is isolated, and how.
+use mf_parts::{Part, Parts, isolate, joined, joined_len, push_isolated};
 use mf_text::{Direction, Pairs, Text};
 use mf_tree::Form;
 use std::alloc::{AllocError, Global};
