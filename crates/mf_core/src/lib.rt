@@ -17,6 +17,3 @@ pub use error::CoreError;
 pub use event::{Event, Told};
 pub use running::step;
 pub use world::World;
-
-#[cfg(test)]
-mod tests;

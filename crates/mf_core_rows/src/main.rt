@@ -51,3 +51,8 @@ fn main(rt: HostRuntime) -> io::Result<ExitCode> {
     println!(rt; "65536 publications and one more: {told}")?;
     Ok(ExitCode::SUCCESS)
 }
+
+#[cfg(test)]
+mod core_tests;
+#[cfg(test)]
+mod flight_tests;

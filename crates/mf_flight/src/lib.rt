@@ -9,6 +9,3 @@ mod ticket;
 pub use flights::{Asked, Flights};
 pub use slot::{Slot, State};
 pub use ticket::{Spent, Ticket};
-
-#[cfg(test)]
-mod tests;

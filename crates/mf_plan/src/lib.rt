@@ -10,6 +10,3 @@ mod shared;
 
 pub use plan::Plan;
 pub use shared::compile;
-
-#[cfg(test)]
-mod tests;

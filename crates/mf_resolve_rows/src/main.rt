@@ -71,3 +71,8 @@ fn main(rt: HostRuntime) -> io::Result<ExitCode> {
     println!(rt; "{rows} rows, {differences} differences")?;
     Ok(ExitCode::from(u8::from(differences != 0)))
 }
+
+#[cfg(test)]
+mod plan_tests;
+#[cfg(test)]
+mod tests;

@@ -1,5 +1,5 @@
 use Rattle.mf_core.specs.Running.{IsWhole}
-use Rattle.mf_core.proofs.tests.who_has_not_joined_may_not_ask.Given as goal
+use Rattle.mf_core_rows.proofs.core_tests.who_has_not_joined_may_not_ask.Given as goal
 
 abbrev pub invariant-loop-event : goal.invariant-loop-event
 invariant-loop-event g l =

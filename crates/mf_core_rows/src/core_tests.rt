@@ -1,4 +1,5 @@
-use super::*;
+//! The calls of mf_core, with ample memory.
+use mf_core::*;
 use mf_edition::{Catalogue, Change};
 use mf_locale::read_tag;
 use std::alloc::Global;

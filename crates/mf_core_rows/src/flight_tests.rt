@@ -1,4 +1,5 @@
-use super::*;
+//! The calls of mf_flight, with ample memory.
+use mf_flight::{Asked, Flights};
 use std::test::Fail;
 
 #[test]

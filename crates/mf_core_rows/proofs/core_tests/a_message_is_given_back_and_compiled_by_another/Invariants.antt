@@ -1,5 +1,5 @@
 use Rattle.mf_core.specs.Running.{IsWhole}
-use Rattle.mf_core.proofs.tests.a_message_is_given_back_and_compiled_by_another.Given as goal
+use Rattle.mf_core_rows.proofs.core_tests.a_message_is_given_back_and_compiled_by_another.Given as goal
 
 abbrev pub invariant-loop-event : goal.invariant-loop-event
 invariant-loop-event g l =
