@@ -1,6 +1,6 @@
 -- What a message is formatted to: its parts, each with the isolates that it gets, and its errors (Unicode TS 35, Part 9,
 -- "Formatting"; that a message which isn't valid is one fallback is this project's own).
-use Rattle.std.specs.Prelude.{◌≡◌, ℕ, List, [], ◌∷◌, map, slice_get, Some, option_map}
+use Rattle.std.specs.Prelude.{◌≡◌, ℕ, List, [], ◌∷◌, map, slice_get, Option, Some, option_map}
 use Rattle.mf_text.specs.declared.arguments.Argued.{Argued}
 use Rattle.mf_locale.specs.declared.record.LocaleRecord.{LocaleRecord}
 use Rattle.mf_tree.specs.Compiled.{Compilation, Invalid, Valid}
@@ -28,6 +28,10 @@ pub record Shown : Type 0 where
 -- the source of the one fallback of a message that isn't valid: U+FFFD
 abbrev pub replacement : List ℕ
 replacement = 0xFFFD ∷ []
+
+-- a message that isn't valid is a fallback, and its errors are those that make it invalid
+abbrev pub shown_invalid : LocaleRecord → List Fault → Shown
+shown_invalid locale faults = record { parts = isolated locale.dir (part.Fallback replacement ∷ []); faults = faults }
 
 -- With the locale, the functions and the arguments of a request.
 module _ (locale : LocaleRecord) (meaning : Meaning) (arguments : List (List ℕ × Argued)) where
@@ -57,11 +61,7 @@ module _ (locale : LocaleRecord) (meaning : Meaning) (arguments : List (List ℕ
     pub shows : ShowsPattern (bound_variables meaning arguments message.declarations) message.body pattern calls
     pub is : shown ≡ shown_pattern (bound_variables meaning arguments message.declarations) calls pattern
 
-  -- one that isn't valid is a fallback, and its errors are those that make it invalid
-  abbrev pub shown_invalid : List Fault → Shown
-  shown_invalid faults = record { parts = isolated locale.dir (part.Fallback replacement ∷ []); faults = faults }
-
   -- what a source compiles to is shown so
   abbrev pub Shows : Compilation → Shown → Type 0
   Shows (Valid message) shown = ShowsMessage message shown
-  Shows (Invalid faults) shown = shown ≡ shown_invalid faults
+  Shows (Invalid faults) shown = shown ≡ shown_invalid locale faults

@@ -16,3 +16,4 @@ mod variable;
 
 pub use markup::MarkupValue;
 pub use scope::Scope;
+pub use sources::identifier_text;

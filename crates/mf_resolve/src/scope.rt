@@ -129,6 +129,13 @@ impl<'a> Scope<'a> {
         self.push_fault(fault.kind, fault.of)
     }
 
+    /// The errors of what was resolved, each where it first arose, when nothing more is.
+    pub fn into_faults(self) -> Faults
+        ensures { result ≡ self.entry.faults }
+    {
+        self.faults
+    }
+
     /// The errors of what was resolved, each where it first arose.
     pub fn faults(&self) -> &Faults
         ensures { result.now ≡ self.now.faults }

@@ -1,0 +1,4 @@
+pub mod Called
+pub mod Pieces
+pub mod Chosen
+pub mod Shown
