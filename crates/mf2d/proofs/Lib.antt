@@ -1,5 +1,4 @@
 pub mod Answering
-pub mod Flatness
 pub mod OneOutput
 pub mod Publishing
 pub mod Serving

@@ -1,62 +1,17 @@
 -- The reply to a request at an edition, and the log after a line, are functions of the log and the line.
-use Rattle.std.proofs.Common.{◌≡◌, ◌∙◌, inl, inr, ℕ, Bool, true, false, List, [], ◌∷◌, Option, Some, None, Result, Ok, Err, length, refl, ap, sym, subst}
-use Rattle.std.specs.Bool.{MatchBool}
-use Rattle.std.specs.Prelude.{nat_lt, option_map}
-use Rattle.mf_text.specs.declared.arguments.Argued.{Argued}
-use Rattle.mf_locale.specs.Chain.{chain_of}
-use Rattle.mf_plan.proofs.Once.{compiled_once}
+use Rattle.std.proofs.Common.{◌≡◌, ◌∙◌, inl, inr, ℕ, List, [], ◌∷◌, Result, Ok, Err, length, refl, ap, sym, subst}
+use Rattle.mf_answer.proofs.Once.{answer_once}
 use Rattle.mf_lint.proofs.Lints.{lints_once}
-use Rattle.mf_parts.specs.declared.part.Part.{Part}
-use Rattle.mf_edition.specs.Edition.{edition_of, found_along, EditionState}
-use Rattle.mf_edition.specs.Items.{Item}
-use Rattle.mf_edition.specs.Records.{place_for}
-use Rattle.mf_parts.specs.Isolation.{isolated}
 use Rattle.mf_edition.specs.declared.change.Entry.{Entry}
-use Rattle.mf_edition.specs.declared.item.Found.{Found}
 use Rattle.mf_wire.specs.Replies.{memory_line, reply_line}
 use Rattle.mf_wire.specs.declared.reply.Reply.{Reply}
 use Rattle.mf_wire.specs.declared.request.Request.{Request}
 use Rattle.mf_wire.specs.declared.request.Request.TheVariants.{Publish, Format, Lint, Stat}
-use Rattle.mf2d.specs.Answers.{answer_of, Answer, IsAnswer, IsAnswerFrom, IsAnswerOf}
 use Rattle.mf2d.specs.Asked.{request_of}
 use Rattle.mf2d.specs.Desks.{Answered, Desk, Serves}
-use Rattle.mf2d.specs.Flat.{flat_parts, HasFlatParts}
 use Rattle.mf2d.specs.Laws.{HasNoMemoryLine}
 use Rattle.mf2d.specs.Replies.{answer_reply, lint_reply, IsReply, IsReplyAt}
 use Rattle.mf2d.specs.Served.{Served}
-
-parts_once : (arguments : List (List ℕ × Argued)) (source : List ℕ) (one other : Option (List Part))
-    → HasFlatParts source arguments one → HasFlatParts source arguments other → one ≡ other
-parts_once arguments source one other a b =
-    a.is ∙ ap (flat_parts arguments) (compiled_once source a.compilation b.compilation a.compiled b.compiled) ∙ sym b.is
-
-same_item : (a b : Item) (found : Option Item) → found ≡ Some a → found ≡ Some b → a ≡ b
-same_item a b found is other = cc
-
-found_once : (arguments : List (List ℕ × Argued)) (edition : EditionState) (found : Found) (one other : Answer)
-    → IsAnswerOf arguments edition found one → IsAnswerOf arguments edition found other → one ≡ other
-found_once arguments edition found one other a b =
-    a.is
-    ∙ ap (λ parts. answer_of found.tag (option_map (isolated (place_for edition.records found.tag).dir) parts)) (parts_once arguments b.item.source a.parts b.parts
-    (subst (λ (item : Item). HasFlatParts item.source arguments a.parts) (same_item a.item b.item _ a.there b.there) a.flat) b.flat)
-    ∙ sym b.is
-
-from_once : (arguments : List (List ℕ × Argued)) (edition : EditionState) (found : Option Found) (one other : Answer)
-    → IsAnswerFrom arguments edition found one → IsAnswerFrom arguments edition found other → one ≡ other
-from_once arguments edition None one other a b = a ∙ sym b
-from_once arguments edition (Some found) one other a b = found_once arguments edition found one other a b
-
-either_once : (b : Bool) (Q : Answer → Type 0) (early one other : Answer) → ((x y : Answer) → Q x → Q y → x ≡ y)
-    → MatchBool b (one ≡ early) (Q one) → MatchBool b (other ≡ early) (Q other) → one ≡ other
-either_once true Q early one other once a b = a ∙ sym b
-either_once false Q early one other once a b = once one other a b
-
-answer_once : (log : List Entry) (k : ℕ) (tag id : List ℕ) (arguments : List (List ℕ × Argued)) (since : ℕ) (one other : Answer)
-    → IsAnswer log k tag id arguments since one → IsAnswer log k tag id arguments since other → one ≡ other
-answer_once log k tag id arguments since one other a b =
-    let edition = edition_of log k in
-    let found = found_along edition.items id (chain_of tag) in
-    either_once (nat_lt k since) (IsAnswerFrom arguments edition found) _ one other (from_once arguments edition found) a b
 
 pub reply_once : (log : List Entry) (k : ℕ) (request : Request) (one other : Reply) → IsReplyAt log k request one → IsReplyAt log k request other → one ≡ other
 reply_once log k (Publish change) one other a b = a ∙ sym b

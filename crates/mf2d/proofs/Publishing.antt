@@ -1,5 +1,5 @@
 -- A publication that is accepted, and one that is refused, at a desk.
-use Rattle.std.proofs.Common.{◌≡◌, ◌≢◌, ◌∙◌, ◌+◌, ℕ, Bool, true, false, List, [], ◌∷◌, ◌++◌, Option, Some, None, Result, Ok, Err, length, take, refl, ap, sym, subst}
+use Rattle.std.proofs.Common.{◌≡◌, ◌≢◌, ◌∙◌, ◌+◌, ℕ, List, [], ◌∷◌, ◌++◌, Option, Some, None, Result, Ok, Err, length, take, refl, ap, sym, subst}
 use Rattle.std.proofs.Math.Seq.{take-length}
 use Rattle.std.proofs.lemmas.List.{append-nil}
 use Rattle.mf_edition.specs.Sizes.{refusal_of, refused, IsDue}
@@ -14,7 +14,7 @@ use Rattle.mf_wire.specs.declared.reply.Reply.{Reply}
 use Rattle.mf_wire.specs.declared.reply.Reply.TheVariants.{Accepted, NotBuilt}
 use Rattle.mf_wire.specs.declared.request.Request.{Request}
 use Rattle.mf_wire.specs.declared.request.Request.TheVariants.{Publish, Stat}
-use Rattle.mf2d.specs.Asked.{asked_checked, is_built, publication}
+use Rattle.mf2d.specs.Asked.{asked_checked}
 use Rattle.mf2d.specs.Desks.{added, published, Desk, Serves}
 use Rattle.mf2d.specs.Replies.{publication_reply, refusal_reply, IsReply}
 
@@ -75,13 +75,6 @@ refused_request desk asked refusal line is written = record {
   written = written;
   log = sym (ap (λ asked. desk.log ++ added desk.log asked) is ∙ append-nil desk.log);
 }
-
--- a publication, by whether it is built
-pub built : (change : Change) (b : Bool) → b ≡ is_built change → b ≡ true → publication change (is_built change) ≡ Ok (Publish change)
-built change b is tested = ap (publication change) (sym is ∙ tested)
-
-pub unbuilt : (change : Change) (b : Bool) → b ≡ is_built change → b ≡ false → publication change (is_built change) ≡ Err NotBuilt
-unbuilt change b is tested = ap (publication change) (sym is ∙ tested)
 
 -- a line that asks for the counts
 pub stat_line : (desk : Desk) (asked : Result Request Reply) (line : List ℕ) → asked ≡ Ok Stat → line ≡ reply_line NotBuilt → Serves desk (asked_checked asked) line desk

@@ -1,8 +1,10 @@
 -- The reply to a request at edition k of a log.
-use Rattle.std.specs.Prelude.{◌≡◌, ◌+◌, ℕ, List, [], Option, Some, None, Result, Ok, Err, take}
+use Rattle.std.specs.Prelude.{◌≡◌, ◌+◌, ℕ, List, Option, Some, None, Result, Ok, Err, take}
 use Rattle.mf_lint.specs.Lint.{Lints}
 use Rattle.mf_lint.specs.declared.linting.Linted.{Linted}
 use Rattle.mf_lint.specs.declared.linting.Linted.TheVariants.{Invalid, Valid}
+use Rattle.mf_answer.specs.Answers as answers
+use Rattle.mf_answer.specs.Answers.{Answer, IsAnswer}
 use Rattle.mf_edition.specs.Sizes.{refusal_of}
 use Rattle.mf_edition.specs.declared.change.Entry.{Entry}
 use Rattle.mf_edition.specs.declared.error.Refusal.{Refusal}
@@ -10,11 +12,9 @@ use Rattle.mf_edition.specs.declared.error.Refusal.TheVariants as refused
 use Rattle.mf_wire.specs.Replies.{op_of}
 use Rattle.mf_wire.specs.declared.reply.Op.{Op}
 use Rattle.mf_wire.specs.declared.reply.Reply.{Reply}
-use Rattle.mf_wire.specs.declared.reply.Reply.TheVariants.{Accepted, EditionsFull, Formatted, LintInvalid, LintValid, NoMessage, NotBuilt, NotYet, StoreFull}
+use Rattle.mf_wire.specs.declared.reply.Reply.TheVariants.{Accepted, EditionsFull, Formatted, LintInvalid, LintValid, NoMessage, NotBuilt, NotYet, StoreFull, TooLong}
 use Rattle.mf_wire.specs.declared.request.Request.{Request}
 use Rattle.mf_wire.specs.declared.request.Request.TheVariants.{Format, Lint, Publish, Stat}
-use Rattle.mf2d.specs.Answers as answers
-use Rattle.mf2d.specs.Answers.{Answer, IsAnswer, IsAnswerIn}
 
 -- a refusal of a publication
 abbrev pub refusal_reply : Refusal → Reply
@@ -26,12 +26,12 @@ abbrev pub publication_reply : ℕ → Op → Option Refusal → Reply
 publication_reply k op None = Accepted (k + 1) op
 publication_reply k op (Some refusal) = refusal_reply refusal
 
--- an answer of edition k; no error is told of a formatted one, since a flat message has none
+-- an answer of edition k
 abbrev pub answer_reply : ℕ → Answer → Reply
 answer_reply k (answers.not_yet since) = NotYet k since
 answer_reply k answers.no_message = NoMessage k
-answer_reply k answers.not_built = NotBuilt
-answer_reply k (answers.formatted tag parts) = Formatted k tag parts []
+answer_reply k answers.too_long = TooLong k
+answer_reply k (answers.formatted tag parts faults) = Formatted k tag parts faults
 
 -- what is said of a source: its canonical form, or the errors that make it invalid
 abbrev pub lint_reply : Linted → Reply

@@ -5,11 +5,12 @@ ghost use Rattle.mf_edition.specs.declared.error.Refusal.{Refusal};
 ghost use Rattle.mf_wire.specs.Requests as refuses;
 ghost use Rattle.mf_wire.specs.declared.reply.Reply.{Reply};
 ghost use Rattle.mf_wire.specs.declared.request.Request.{Request};
-ghost use Rattle.mf2d.specs.Asked.{is_built, publication};
+ghost use Rattle.mf2d.specs.Asked.{publication, reason_against};
 ghost use Rattle.mf2d.specs.Desks.{empty_desk, Answered, Serves};
 ghost use Rattle.mf2d.specs.Replies.{refusal_reply, IsReplyAt};
 
 use crate::answer::answer;
+use crate::checks::reason_against;
 use crate::lines::Clerk;
 use crate::lint::lint_reply;
 use mf_edition::{Change, Entry, Publications, PublishError};
@@ -26,7 +27,7 @@ pub struct Desk {
 }
 
 impl Model for Desk {
-    ghost use Rattle.mf2d.specs.Asked.{is_built, publication};
+    ghost use Rattle.mf2d.specs.Asked.{publication, reason_against};
     ghost use Rattle.mf2d.specs.Desks.{Desk as Known};
 
     ghost Value = { Known };
@@ -39,7 +40,7 @@ impl Clerk for Desk {
 
     fn answer(&mut self, alloc: Global, line: &[u8]) -> Result<Text, AllocError> {
         match read_request(alloc, line) {
-            Ok(Request::Publish(change)) => self.publish_built(alloc, change),
+            Ok(Request::Publish(change)) => self.publish_checked(alloc, change),
             Ok(
                 Request::Format {
                     tag,
@@ -66,16 +67,15 @@ impl Desk {
         Ok(Desk { publications })
     }
 
-    /// Publishes a change, where that is built, and gives the reply line.
-    fn publish_built(&mut self, alloc: Global, change: Change) -> Result<Text, AllocError>
+    /// Publishes a change, unless its handler is refused, and gives the reply line.
+    fn publish_checked(&mut self, alloc: Global, change: Change) -> Result<Text, AllocError>
         ensures ok { IfOk result (λ line. Serves self.old
-            (publication change (is_built change)) (encode_utf8_all line) self.new) }
+            (publication change (reason_against change)) (encode_utf8_all line) self.new) }
         ensures err { OnErr result (self.new ≡ self.old) }
     {
-        if is_built(&change) {
-            self.publish(alloc, change)
-        } else {
-            reply_line(alloc, &Reply::NotBuilt)
+        match reason_against(&change)? {
+            Some(reason) => reply_line(alloc, &Reply::BadHandler { reason }),
+            None => self.publish(alloc, change),
         }
     }
 
@@ -112,16 +112,6 @@ impl Desk {
             (Request.Format tag.now id.now arguments.now since) reply) }
     {
         answer(alloc, self.publications.newest(), tag, id, arguments, since)
-    }
-}
-
-/// Whether such a change is published yet.
-fn is_built(change: &Change) -> bool
-    ensures { result ≡ is_built change.now }
-{
-    match change {
-        Change::Catalogue(_) | Change::Locale { .. } => true,
-        Change::Handler(_) => false,
     }
 }
 

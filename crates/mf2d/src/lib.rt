@@ -2,6 +2,7 @@
 #![tactic(auto)]
 
 mod answer;
+mod checks;
 mod command;
 mod desk;
 pub mod laws;
@@ -10,10 +11,3 @@ mod lint;
 mod pipe;
 
 pub use command::{Command, top};
-
-#[cfg(test)]
-mod handler_lines;
-#[cfg(test)]
-mod sentences;
-#[cfg(test)]
-mod tests;

@@ -1,5 +1,5 @@
-//! The program `mf2d_rows`: looks whether `pipe` answers the sessions of `sessions.txt` as they say, and prints each difference
-//! and how many there are.
+//! The program `mf2d_rows`: looks whether `pipe` answers the sessions of `sessions.txt` and of `formatting.txt`, which are the
+//! examples of docs/formatting.md, as they say, and prints each difference and how many there are.
 //!
 //! A session is a block of lines: a request stands behind `> `, its reply behind `< `. Blocks are separated by empty lines, and
 //! a line that begins with `# ` is a comment. Each session is answered three times: whole, in pieces of seven bytes, and byte by
@@ -24,14 +24,16 @@ struct Found {
 }
 
 fn main(rt: HostRuntime) -> io::Result<ExitCode> {
-    let text = fs::read_to_string(&rt, "sessions.txt")?;
     let mut found = Found {
         sessions: 0,
         lines: 0,
         differences: 0,
     };
-    for block in text.as_str().split("\n\n") {
-        found = look_at(&rt, found, block)?;
+    for file in ["sessions.txt", "formatting.txt"] {
+        let text = fs::read_to_string(&rt, file)?;
+        for block in text.as_str().split("\n\n") {
+            found = look_at(&rt, found, block)?;
+        }
     }
     let Found {
         sessions,
@@ -76,3 +78,10 @@ fn lines_behind(rt: &HostRuntime, block: &str, mark: &str) -> io::Result<String>
     }
     Ok(text)
 }
+
+#[cfg(test)]
+mod io_tests;
+#[cfg(test)]
+mod run_tests;
+#[cfg(test)]
+mod sentence_tests;

@@ -14,8 +14,6 @@ mod outside;
 mod statuses;
 mod std_sink;
 mod std_source;
-#[cfg(test)]
-mod tests;
 mod whole;
 
 pub use bounds::Caps;

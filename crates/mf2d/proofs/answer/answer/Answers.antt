@@ -1,6 +1,6 @@
 use Rattle.std.proofs.Common.{◌<◌, sym, subst}
 use Rattle.mf_wire.specs.declared.reply.Reply.TheVariants.{NotYet}
-use Rattle.mf2d.specs.Answers.{IsAnswerIn}
+use Rattle.mf_answer.specs.Answers.{IsAnswerIn}
 use Rattle.mf2d.specs.Replies.{IsFormatReply}
 use Rattle.mf2d.proofs.Answering.{old_reply}
 use Rattle.mf2d.proofs.answer.answer.Goals as goal

@@ -1,7 +1,7 @@
 //! Worked rows: what sources and sinks in memory do, and what is read and sent over them.
 ghost use Rattle.std.specs.Prelude.{◌≤◌};
 
-use crate::{
+use mf_io::{
     Failed, GatherError, MemorySink, MemorySource, Sink, Source, Status, StdSink, StdSource,
     gather, send,
 };

@@ -1,8 +1,9 @@
+//! Runs whose input or output fails, is cut, or has a cap, and words that are no command.
 ghost use Rattle.std.specs.Prelude.{◌<◌};
 
-use super::*;
-use mf_io::{MemorySink, MemorySource, Status};
+use mf_io::{MemorySink, MemorySource, Sink, Source, Status};
 use mf_text::{Text, Texts};
+use mf2d::top;
 use std::alloc::{AllocError, Global};
 use std::test::Fail;
 
