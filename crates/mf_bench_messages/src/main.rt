@@ -1,12 +1,15 @@
 //! The program `mf_bench_messages`: compiles and resolves a message many times, so that `bench/run` can time it.
 //!
-//! Its words are `compile SOURCE COUNT`, and `chain USES COUNT`, where 256 declarations use each the one before, and the pattern
-//! so many times the last. It prints one line, a number that comes of all calls, so that none can be left out. After any other
+//! Its words are `compile SOURCE COUNT`; `render SOURCE COUNT`, in English with a number and a name; `choose SOURCE COUNT`, where each variable is 1; `variants VARIANTS COUNT`, where a
+//! matcher of four numbers has so many variants and one more; and `chain USES COUNT`, where 256 declarations use each the one
+//! before, and the pattern so many times the last. It prints one line, a number that comes of all calls, so that none can be left out. After any other
 //! words it ends with status 1.
 #![tactic(auto)]
 
 mod chain;
+mod choosing;
 mod compiling;
+mod rendering;
 
 use std::process::ExitCode;
 use std::{env, io};
@@ -15,6 +18,9 @@ use std::{env, io};
 #[derive(Drop)]
 enum Task {
     Compile { source: String, count: u64 },
+    Render { source: String, count: u64 },
+    Choose { source: String, count: u64 },
+    Variants { variants: u64, count: u64 },
     Chain { uses: u64, count: u64 },
 }
 
@@ -40,6 +46,18 @@ fn task_of(call: &str, first: String, count: &str) -> Option<Task> {
             source: first,
             count,
         }),
+        "render" => Some(Task::Render {
+            source: first,
+            count,
+        }),
+        "choose" => Some(Task::Choose {
+            source: first,
+            count,
+        }),
+        "variants" => Some(Task::Variants {
+            variants: first.as_str().parse::<u64>().ok()?,
+            count,
+        }),
         "chain" => Some(Task::Chain {
             uses: first.as_str().parse::<u64>().ok()?,
             count,
@@ -56,6 +74,12 @@ fn outcome(rt: &HostRuntime, task: &Task) -> io::Result<u64> {
             source.as_str(),
             *count,
         )?,
+        Task::Render { source, count } => rendering::rendered(rt.alloc(), source.as_str(), *count)?,
+        Task::Choose { source, count } => choosing::chosen(rt.alloc(), source.as_str(), *count)?,
+        Task::Variants { variants, count } => {
+            let source = choosing::matcher(rt.alloc(), *variants)?;
+            choosing::chosen(rt.alloc(), source.as_str(), *count)?
+        }
         Task::Chain { uses, count } => chain::resolved(rt.alloc(), *uses, *count)?,
     };
     Ok(outcome)
@@ -68,7 +92,7 @@ fn main(rt: HostRuntime) -> io::Result<ExitCode> {
         Ok(ExitCode::SUCCESS)
     } else {
         eprintln!(rt;
-            "usage: mf_bench_messages compile SOURCE COUNT, or mf_bench_messages chain USES COUNT"
+            "usage: mf_bench_messages compile SOURCE COUNT, or render SOURCE COUNT, or choose SOURCE COUNT, or variants VARIANTS COUNT, or chain USES COUNT"
         )?;
         Ok(ExitCode::FAILURE)
     }
