@@ -1,0 +1,12 @@
+pub mod Written
+pub mod Fixed
+pub mod Cases
+pub mod Numbered
+pub mod Fronts
+pub mod Calls
+pub mod Back
+pub mod Legal
+pub mod Served
+pub mod Sole
+pub mod Once
+pub mod Following
