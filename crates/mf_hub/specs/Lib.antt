@@ -1,0 +1,3 @@
+-- Read Desks, which says what the calls of the desk of one caller do; Kept is for private clauses.
+pub mod Desks
+pub mod Kept
