@@ -1,0 +1,5 @@
+pub mod Answering
+pub mod Turning
+pub mod Agreeing
+pub mod Turned
+pub mod Outputs

@@ -1,0 +1,13 @@
+//! Sessions: lines read from a source, each answered at a desk, and the replies written to a sink.
+#![tactic(auto)]
+
+mod alone;
+mod checks;
+mod desk;
+mod format;
+pub mod laws;
+mod lint;
+mod publish;
+
+pub use alone::session_alone;
+pub use lint::lint_reply;
