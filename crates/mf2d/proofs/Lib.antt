@@ -1,4 +1,0 @@
-pub mod Answering
-pub mod OneOutput
-pub mod Publishing
-pub mod Serving

@@ -42,9 +42,9 @@ fn command_named(word: &str) -> Option<Command>
 
 /// Does what the words after the program's name say. A fault is answered only where its object's count of faults rose.
 ///
-/// `pipe` reads the whole input and answers each of its lines. Its statuses are `Ended`, `ReadFault`, `WriteFault`,
-/// `InputFull` (the input has 16,777,216 bytes or more) and `OutOfMemory` (before anything was read). After a status
-/// other than `Ended` and `WriteFault` nothing was answered.
+/// `pipe` answers each line of the input, with the publications of the lines before it. Its statuses are `Ended`, `ReadFault`,
+/// `WriteFault`, `LineTooLong` (a line has more than 1,048,576 bytes), `InputFull` (4,294,967,296 bytes came, and the end of the
+/// input wasn't told by then) and `OutOfMemory`, before anything was read. The lines in front of what stopped it are answered.
 ///
 /// `lint` reads the whole input as one source, and writes the line with its canonical form or its errors. Its statuses are
 /// `Ended`, `ReadFault`, `WriteFault`, `LineTooLong` (the input has more than 1,048,576 bytes) and `OutOfMemory` (before

@@ -1,12 +1,7 @@
 //! The commands of `mf2d`, a formatting server for Unicode MessageFormat 2.0, over any source and sink.
 #![tactic(auto)]
 
-mod answer;
-mod checks;
 mod command;
-mod desk;
-pub mod laws;
-mod lines;
 mod lint;
 mod pipe;
 

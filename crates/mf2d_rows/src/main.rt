@@ -85,3 +85,5 @@ mod io_tests;
 mod run_tests;
 #[cfg(test)]
 mod sentence_tests;
+#[cfg(test)]
+mod session_tests;

@@ -24,6 +24,9 @@ const REQUESTS: &[u8] =
     b"{\"op\":\"publish\",\"locale\":\"en\",\"messages\":{\"hi\":\"Hello {$name}!\"}}\n\
     {\"op\":\"format\",\"locale\":\"en\",\"id\":\"hi\",\"args\":{\"name\":\"Ann\"}}";
 
+/// The bytes of the first with its line feed.
+const FIRST_LINE: usize = 66;
+
 /// What a run left behind.
 #[derive(Debug, Drop)]
 struct Run {
@@ -135,21 +138,29 @@ fn other_words_are_no_command(rt: HostRuntime) -> Result<(), Fail> {
 #[test]
 fn a_fault_ends_the_run(rt: HostRuntime) -> Result<(), Fail> {
     let alloc = rt.alloc();
-    // The third read fails, and nothing is answered.
+    // The third read fails, and there was no whole line.
     let input = pieces(alloc, REQUESTS, 10)?;
     let read = run_words(alloc, &["pipe"], input, vec![in alloc; 3]?, Vec::new(alloc))?;
     assert_eq!(rt; read.status, Status::ReadFault);
     assert_eq!(rt; read.read_faults, 1);
     assert!(rt; read.written.is_empty());
 
-    // A write or the flush at the end fails. Each reply is two writes.
+    // The second read fails, and the first gave a whole line and ten bytes of the next.
+    let input = pieces(alloc, REQUESTS, FIRST_LINE + 10)?;
+    let read = run_words(alloc, &["pipe"], input, vec![in alloc; 2]?, Vec::new(alloc))?;
+    assert_eq!(rt; read.status, Status::ReadFault);
+    assert_eq!(rt; read.read_faults, 1);
+    assert_eq!(rt; str::from_utf8(&read.written), Ok(ACCEPTED));
+
+    // A write or a flush fails. Each reply is two writes, and there is a flush when what was read is answered.
     let rows = [
         (1, ""),
         (2, "{\"edition\":1,\"ok\":\"publish\"}"),
         (3, ACCEPTED),
+        (4, ACCEPTED),
     ];
     for (failing, written) in rows {
-        let input = pieces(alloc, REQUESTS, 10)?;
+        let input = pieces(alloc, REQUESTS, 1_000)?;
         let run = run_words(
             alloc,
             &["pipe"],
@@ -160,32 +171,6 @@ fn a_fault_ends_the_run(rt: HostRuntime) -> Result<(), Fail> {
         assert_eq!(rt; run.status, Status::WriteFault);
         assert_eq!(rt; run.write_faults, 1);
         assert_eq!(rt; str::from_utf8(&run.written), Ok(written));
-    }
-    let flush = run_words(
-        alloc,
-        &["pipe"],
-        Vec::new(alloc),
-        Vec::new(alloc),
-        vec![in alloc; 1]?,
-    )?;
-    assert_eq!(rt; flush.status, Status::WriteFault);
-    Ok(())
-}
-
-#[test]
-fn an_input_has_a_cap(rt: HostRuntime) -> Result<(), Fail> {
-    let alloc = rt.alloc();
-    let cap = 16_777_216 as usize;
-    let rows = [
-        (cap - 1, Status::Ended),
-        (cap, Status::InputFull),
-        (cap + 1, Status::InputFull),
-    ];
-    for (length, status) in rows {
-        let input = vec![in alloc; vec![in alloc; b' '; length]?]?;
-        let run = pipe(alloc, input)?;
-        assert_eq!(rt; run.status, status, "{length} bytes");
-        assert_eq!(rt; run.written.is_empty(), status == Status::InputFull);
     }
     Ok(())
 }

@@ -92,15 +92,16 @@ fn a_catalogue_has_its_bounds(rt: HostRuntime) -> Result<(), Fail> {
 #[test]
 fn a_text_has_its_bound(rt: HostRuntime) -> Result<(), Fail> {
     let alloc = rt.alloc();
-    let value = vec![in alloc; b'v'; 1_048_570]?;
+    let value = vec![in alloc; b'v'; 986_889]?;
     let value = str::from_utf8(&value).unwrap_or("");
     let ask = format!(in alloc;
         "{{\"op\":\"format\",\"locale\":\"en\",\"id\":\"a\",\"args\":{{\"x\":\"{value}\"}}}}"
     )?;
     let mut source = String::new(alloc);
-    for _ in 0..16 {
+    for _ in 0..17 {
         source.push_str("{$x}")?;
     }
+    source.push_str("a")?;
     let fits = publication(alloc, "en", "a", source.as_str())?;
     source.push_str("a")?;
     let passes = publication(alloc, "en", "a", source.as_str())?;
