@@ -11,7 +11,7 @@ use Rattle.mf_answer.specs.Answers.{Answer}
 use Rattle.mf_wire.specs.Replies.{memory_line, reply_line}
 use Rattle.mf_wire.specs.declared.reply.Op.{Op}
 use Rattle.mf_wire.specs.declared.reply.Reply.{Reply}
-use Rattle.mf_wire.specs.declared.reply.Reply.TheVariants.{Accepted, Formatted, LintValid, LintInvalid, Stat, BadJson, BadRequest, BadLocale, BadHandler, EditionsFull, StoreFull, NotBuilt, NoMessage, NotYet, TooLong}
+use Rattle.mf_wire.specs.declared.reply.Reply.TheVariants.{Accepted, Formatted, LintValid, LintInvalid, Stat, BadJson, BadRequest, BadLocale, BadHandler, EditionsFull, StoreFull, NoMessage, NotYet, TooLong}
 use Rattle.mf_transcript.specs.Laws.{RepliesDiffer}
 use Rattle.mf_transcript.specs.Replies.{answer_reply}
 
@@ -113,7 +113,6 @@ replies_differ (BadLocale field (Some rule)) same = other_late (BadLocale field 
 replies_differ (BadHandler reason) same = other_late (BadHandler reason) 98 refl (λ e. omega (arith, e)) same
 replies_differ (EditionsFull entries) same = other_early (EditionsFull entries) 110 refl (λ e. omega (arith, e)) same
 replies_differ (StoreFull used size) same = other_late (StoreFull used size) 115 refl (λ e. omega (arith, e)) same
-replies_differ NotBuilt same = other_late NotBuilt 110 refl (λ e. omega (arith, e)) same
 replies_differ (NoMessage k) same = other_early (NoMessage k) 100 refl (λ e. omega (arith, e)) same
 replies_differ (NotYet k since) same = other_early (NotYet k since) 100 refl (λ e. omega (arith, e)) same
 replies_differ (TooLong k) same = other_early (TooLong k) 100 refl (λ e. omega (arith, e)) same

@@ -18,7 +18,7 @@ use Rattle.mf_wire.specs.declared.reply.Op.TheVariants.{Publish, Locale, Handler
 use Rattle.mf_wire.specs.declared.reply.Reason.{Reason}
 use Rattle.mf_wire.specs.declared.reply.Reason.TheVariants.{ReservedName, BadBase, BadOption, RepeatedKey}
 use Rattle.mf_wire.specs.declared.reply.Reply.{Reply}
-use Rattle.mf_wire.specs.declared.reply.Reply.TheVariants.{Accepted, Formatted, LintValid, LintInvalid, Stat, BadJson, BadRequest, BadLocale, BadHandler, EditionsFull, StoreFull, NotBuilt, NoMessage, NotYet, TooLong}
+use Rattle.mf_wire.specs.declared.reply.Reply.TheVariants.{Accepted, Formatted, LintValid, LintInvalid, Stat, BadJson, BadRequest, BadLocale, BadHandler, EditionsFull, StoreFull, NoMessage, NotYet, TooLong}
 
 abbrev pub op_name : Op → List ℕ
 op_name Publish = codes "publish"
@@ -103,7 +103,6 @@ reply_data (StoreFull used size) = object
     (text_member (codes "error") (codes "store-full")
     (number_member (codes "size") size
     (number_member (codes "used") used no_members)))
-reply_data NotBuilt = object (text_member (codes "error") (codes "not-built") no_members)
 reply_data (NoMessage edition) = object
     (number_member (codes "edition") edition
     (text_member (codes "error") (codes "no-message") no_members))

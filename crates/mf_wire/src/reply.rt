@@ -127,8 +127,6 @@ pub enum Reply {
         used: u64,
         size: u64,
     },
-    /// The line is JSON, and asks for what isn't built yet.
-    NotBuilt,
     /// No tag of the chain has the id in this edition.
     NoMessage {
         edition: u64,

@@ -60,7 +60,6 @@ pub(crate) fn write_reply(alloc: Global, out: &mut Writer, reply: &Reply) -> Res
         Reply::BadHandler { reason } => write_bad_handler(out, *reason),
         Reply::EditionsFull { entries } => write_editions_full(out, *entries),
         Reply::StoreFull { used, size } => write_store_full(out, *used, *size),
-        Reply::NotBuilt => write_row(out, &[Member::Text("error", "not-built")]),
         Reply::NoMessage { edition } => write_no_message(out, *edition),
         Reply::NotYet { edition, since } => write_not_yet(out, *edition, *since),
         Reply::TooLong { edition } => write_too_long(out, *edition),

@@ -60,7 +60,6 @@ fn refused(value: &Value, error: &str) -> Option<Reply> {
             used: number(value, "used"),
             size: number(value, "size"),
         }),
-        "not-built" => Some(Reply::NotBuilt),
         "no-message" => Some(Reply::NoMessage { edition }),
         "not-yet" => Some(Reply::NotYet {
             edition,

@@ -6,9 +6,6 @@ use Rattle.mf_wire.proofs.writing.write_reply.Goals as goal
 pub returns-in-BadJson : goal.returns-in-BadJson
 returns-in-BadJson c = rw c.in-BadJson.is c.write_row.ensures
 
-pub returns-in-NotBuilt : goal.returns-in-NotBuilt
-returns-in-NotBuilt c = rw c.in-NotBuilt.is c.write_row-in-NotBuilt.ensures
-
 pub returns-in-Formatted : goal.returns-in-Formatted
 returns-in-Formatted c =
     rw c.in-Formatted.is (
