@@ -10,7 +10,7 @@ use mf_io::{Failed, Sink, send};
 use mf_text::Text;
 use std::alloc::{AllocError, Global};
 
-/// Who answers lines at a desk, one after the other.
+/// Who answers lines at a desk, one after the other. A clerk may keep memory from line to line, on which no answer rests.
 pub trait Clerk {
     /// What is kept from one line to the next.
     type Desk;
@@ -23,7 +23,12 @@ pub trait Clerk {
     /// # Errors
     ///
     /// `AllocError` where there is no memory for the reply: the line is answered by the memory line then.
-    fn answer(&self, alloc: Global, desk: &mut Self::Desk, line: &[u8]) -> Result<Text, AllocError>
+    fn answer(
+        &mut self,
+        alloc: Global,
+        desk: &mut Self::Desk,
+        line: &[u8],
+    ) -> Result<Text, AllocError>
         ensures ok { IfOk result (λ reply.
             answers desk.old line.now (encode_utf8_all reply) desk.new) }
         ensures err { OnErr result (answers desk.old line.now memory_line desk.new) };

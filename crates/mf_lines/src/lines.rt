@@ -17,7 +17,7 @@ use std::alloc::Global;
 /// Says how many bytes these lines are with their line feeds. The first `known` bytes hold no line feed.
 pub(crate) fn answer_whole<C: Clerk, K: Sink>(
     alloc: Global,
-    clerk: &C,
+    clerk: &mut C,
     desk: &mut C::Desk,
     sink: &mut K,
     most: u64,
@@ -41,7 +41,7 @@ pub(crate) fn answer_whole<C: Clerk, K: Sink>(
 /// Answers the whole lines at the front of some bytes, as `answer_whole` does, but passes no reply on.
 fn answer_lines<C: Clerk, K: Sink>(
     alloc: Global,
-    clerk: &C,
+    clerk: &mut C,
     desk: &mut C::Desk,
     sink: &mut K,
     most: u64,
@@ -82,7 +82,7 @@ fn line_end(bytes: &[u8], known: usize, most: u64) -> Option<usize>
 /// Answers what follows the last line feed of an input, where it isn't empty, and passes the reply on.
 pub(crate) fn answer_last<C: Clerk, K: Sink>(
     alloc: Global,
-    clerk: &C,
+    clerk: &mut C,
     desk: &mut C::Desk,
     sink: &mut K,
     line: &[u8],
@@ -104,7 +104,7 @@ pub(crate) fn answer_last<C: Clerk, K: Sink>(
 /// Answers a line and writes the reply.
 fn answer_line<C: Clerk, K: Sink>(
     alloc: Global,
-    clerk: &C,
+    clerk: &mut C,
     desk: &mut C::Desk,
     sink: &mut K,
     line: &[u8],

@@ -28,7 +28,7 @@ use std::alloc::Global;
 /// - `OutOfMemory`: there was no memory for a buffer. Nothing was read.
 pub fn answer_input<C: Clerk, S: Source, K: Sink>(
     alloc: Global,
-    clerk: &C,
+    clerk: &mut C,
     desk: &mut C::Desk,
     source: &mut S,
     sink: &mut K,
@@ -58,7 +58,7 @@ pub fn answer_input<C: Clerk, S: Source, K: Sink>(
 /// Answers an input by way of an empty buffer.
 fn answer_through<C: Clerk, S: Source, K: Sink>(
     alloc: Global,
-    clerk: &C,
+    clerk: &mut C,
     desk: &mut C::Desk,
     source: &mut S,
     sink: &mut K,

@@ -10,19 +10,23 @@ use crate::desk::answer;
 use mf_hub::Alone;
 use mf_io::{Caps, Sink, Source, Status};
 use mf_lines::{Clerk, answer_input};
+use mf_requests::RequestReader;
 use mf_text::Text;
 use std::alloc::{AllocError, Global};
 
 /// Who answers at the desk of one caller.
-struct AloneClerk;
+#[derive(Drop)]
+struct AloneClerk {
+    reader: RequestReader,
+}
 
 impl Clerk for AloneClerk {
     type Desk = Alone;
 
     ghost answers = { Turns };
 
-    fn answer(&self, alloc: Global, desk: &mut Alone, line: &[u8]) -> Result<Text, AllocError> {
-        answer(alloc, desk, line)
+    fn answer(&mut self, alloc: Global, desk: &mut Alone, line: &[u8]) -> Result<Text, AllocError> {
+        answer(alloc, &mut self.reader, desk, line)
     }
 }
 
@@ -56,5 +60,8 @@ pub fn session_alone<S: Source, K: Sink>(
     ensures source_count { S.faults source.old ≤ S.faults source.new }
     ensures sink_count { K.faults sink.old ≤ K.faults sink.new }
 {
-    answer_input(alloc, &AloneClerk, desk, source, sink, caps)
+    let mut clerk = AloneClerk {
+        reader: RequestReader::new(alloc),
+    };
+    answer_input(alloc, &mut clerk, desk, source, sink, caps)
 }

@@ -12,16 +12,22 @@ use crate::format::format;
 use crate::lint::lint_reply;
 use crate::publish::publish_checked;
 use mf_hub::{Alone, Stat};
+use mf_requests::RequestReader;
 use mf_text::Text;
-use mf_wire::{Reply, Request, WireError, read_request, reply_line};
+use mf_wire::{Reply, Request, WireError, reply_line};
 use std::alloc::{AllocError, Global};
 
 /// The reply line to a line at the desk of one caller. Where there is no memory for it, the line is answered by the memory line.
-pub(crate) fn answer(alloc: Global, desk: &mut Alone, line: &[u8]) -> Result<Text, AllocError>
+pub(crate) fn answer(
+    alloc: Global,
+    reader: &mut RequestReader,
+    desk: &mut Alone,
+    line: &[u8],
+) -> Result<Text, AllocError>
     ensures ok { IfOk result (λ said. Turn line.now (encode_utf8_all said) desk.old desk.new) }
     ensures err { OnErr result (Turn line.now memory_line desk.old desk.new) }
 {
-    match read_request(alloc, line) {
+    match reader.read(alloc, line) {
         Ok(Request::Publish(change)) => publish_checked(alloc, desk, change),
         Ok(
             Request::Format {

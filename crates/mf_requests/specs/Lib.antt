@@ -1,0 +1,2 @@
+-- What a line asks for is `line_request` of mf_wire. Sentences is for private clauses.
+pub mod Sentences
