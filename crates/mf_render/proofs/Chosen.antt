@@ -1,7 +1,6 @@
 -- The pattern that is shown.
-use Rattle.std.proofs.Common.{◌≡◌, ◌<◌, ℕ, zero, suc, List, [], ◌∷◌, length, slice_index_or, Option, Some, None, refl, sym, ap, subst, ◌∙◌, arith}
+use Rattle.std.proofs.Common.{◌≡◌, ◌<◌, ℕ, zero, suc, List, [], ◌∷◌, length, slice_index_or, Some, refl, sym, subst, arith}
 use Rattle.std.specs.Prelude.{option_map, slice_get}
-use Rattle.mf_locale.specs.declared.record.LocaleRecord.{LocaleRecord}
 use Rattle.mf_tree.specs.declared.message.Body.{Body}
 use Rattle.mf_tree.specs.declared.message.Body.TheVariants as body
 use Rattle.mf_tree.specs.declared.message.Variant.{Variant}
@@ -9,8 +8,7 @@ use Rattle.mf_tree.specs.declared.name.Name.{Name}
 use Rattle.mf_tree.specs.declared.pattern.Piece.{Piece}
 use Rattle.mf_value.specs.ErrorLists.{no_calls}
 use Rattle.mf_value.specs.Meaning.{Meaning}
-use Rattle.mf_value.specs.Selection.{Ranks, after_selection, rank_list}
-use Rattle.mf_value.specs.declared.value.Value.{Value}
+use Rattle.mf_value.specs.Selection.{after_selection}
 use Rattle.mf_resolve.specs.Gathering.{Gathers}
 use Rattle.mf_resolve.specs.Resolving.{ScopeState, bound_of}
 use Rattle.mf_select.specs.Choosing.{Chooses, TellsKeys}

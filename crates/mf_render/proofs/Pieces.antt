@@ -1,6 +1,5 @@
 -- The parts of a pattern grow by those of one more piece.
 use Rattle.std.proofs.Common.{◌≡◌, ℕ, Result, Ok, Err, IfOk, List, [], ◌∷◌, ◌++◌, refl, sym, ap, subst, ◌∙◌}
-use Rattle.std.specs.List.{flat_map}
 use Rattle.mf_text.specs.declared.arguments.Argued.{Argued}
 use Rattle.mf_text.specs.declared.direction.Direction.{Direction}
 use Rattle.mf_locale.specs.declared.record.LocaleRecord.{LocaleRecord}
@@ -12,7 +11,7 @@ use Rattle.mf_value.specs.Meaning.{Meaning}
 use Rattle.mf_value.specs.Traces.{Bound}
 use Rattle.mf_parts.specs.Isolation.{isolated, isolated_part}
 use Rattle.mf_parts.specs.declared.part.Part.{Part}
-use Rattle.mf_resolve.specs.Gathering.{Advances, Gathers}
+use Rattle.mf_resolve.specs.Gathering.{Gathers}
 use Rattle.mf_resolve.specs.Resolving.{ScopeState, bound_of}
 use Rattle.mf_answer.specs.Parts.{after_pattern, after_piece, pattern_parts, piece_part}
 use Rattle.mf_render.specs.Showing.{GivesMarkup, GivesPart, GivesParts}

@@ -1,5 +1,5 @@
 -- A message that is formatted: the pattern that is found, its parts, and the errors that were gathered.
-use Rattle.std.proofs.Common.{◌≡◌, ◌∙◌, ℕ, List, [], ◌∷◌, ◌++◌, refl, sym, ap, subst}
+use Rattle.std.proofs.Common.{◌≡◌, ◌∙◌, ℕ, List, [], ◌∷◌, ◌++◌, refl, sym, subst}
 use Rattle.mf_text.specs.declared.arguments.Argued.{Argued}
 use Rattle.mf_text.specs.declared.direction.Direction.{Direction}
 use Rattle.mf_locale.specs.declared.record.LocaleRecord.{LocaleRecord}

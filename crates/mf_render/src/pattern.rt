@@ -10,8 +10,8 @@ use mf_tree::{Markup, Pattern, Piece};
 use mf_value::Functions;
 use std::alloc::{AllocError, Global};
 
-/// The most parts that a piece of a pattern has: its own, and the marks that isolate it.
-const MOST_PARTS: usize = 3;
+/// The marks that isolate a part.
+const MARKS: usize = 2;
 
 /// The parts of a pattern, each between the isolates that it gets in a message with this record.
 pub fn pattern_parts<'a, F: Functions>(
@@ -23,12 +23,24 @@ pub fn pattern_parts<'a, F: Functions>(
 ) -> Result<Parts, AllocError>
     ensures { IfOk result (GivesParts «record».now (F.meaning functions.now) scope.old scope.new pattern.now) }
 {
-    let mut parts = Parts::with_capacity(alloc, pattern.len().saturating_mul(MOST_PARTS))?;
+    let mut parts = Parts::with_capacity(alloc, most_parts(pattern.as_slice()))?;
     for piece in pattern.as_slice() {
         let part = piece_part(alloc, scope, functions, record, piece)?;
         parts = push_isolated(parts, part, record.dir)?;
     }
     Ok(parts)
+}
+
+/// The most parts that the pieces of a pattern have: a text has no marks. It is room, and no more than that, since a list that
+/// is longer than a kilobyte comes from a slower part of the C library's memory.
+fn most_parts(pieces: &[Piece]) -> usize {
+    let mut parts = pieces.len();
+    for piece in pieces {
+        if !matches!(piece, Piece::Text(_)) {
+            parts = parts.saturating_add(MARKS);
+        }
+    }
+    parts
 }
 
 /// The part of a piece.

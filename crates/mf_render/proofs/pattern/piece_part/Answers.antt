@@ -1,6 +1,3 @@
-use Rattle.std.proofs.Common.{sym, subst, Ok, Err}
-use Rattle.mf_tree.specs.declared.pattern.Piece.{Piece}
-use Rattle.mf_render.specs.Showing.{GivesPart}
 use Rattle.mf_render.proofs.Pieces.{markup_given}
 use Rattle.mf_render.proofs.pattern.piece_part.Goals as goal
 
