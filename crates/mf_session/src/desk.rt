@@ -60,7 +60,7 @@ fn stat_reply(stat: Stat) -> Reply
 }
 
 /// The reply to a line that makes no request.
-fn refusal(error: WireError) -> Result<Reply, AllocError>
+pub fn refusal(error: WireError) -> Result<Reply, AllocError>
     ensures { IfOk result (λ reply.
         (asked : Result Request Reply) → refuses.IsDue asked error → asked ≡ Err reply) }
 {

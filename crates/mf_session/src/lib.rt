@@ -10,4 +10,6 @@ mod lint;
 mod publish;
 
 pub use alone::session_alone;
+pub use checks::reason_against;
+pub use desk::refusal;
 pub use lint::lint_reply;
