@@ -1,0 +1,17 @@
+pub mod Accepting
+pub mod Apart
+pub mod Cases
+pub mod Counted
+pub mod Stats
+pub mod Sums
+pub mod Verdicts
+pub mod Walks
+pub mod Digits
+pub mod Editions
+pub mod Lines
+pub mod Publishing
+pub mod Refused
+pub mod Results
+pub mod Sentences
+pub mod Shown
+pub mod Standing
