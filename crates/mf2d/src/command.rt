@@ -1,12 +1,16 @@
 ghost use Rattle.std.specs.Prelude.{◌≡◌, ◌≤◌, chars};
 ghost use Rattle.mf_io.specs.Faults.{Rose};
-ghost use Rattle.mf2d.specs.Commands.{command_named, command_of, Outcome};
+ghost use Rattle.mf2d.specs.Commands.{command_counted, command_named, command_of, count_of, Outcome};
 
 use crate::lint::lint;
 use crate::pipe::pipe;
 use mf_io::{Sink, Source, Status};
+use mf_mill::mill;
 use mf_text::Texts;
 use std::alloc::Global;
+
+/// The most requests for sentences of a large run.
+const MOST_REQUESTS: u32 = 100_000;
 
 /// What the words of the command line ask for.
 #[derive(Clone, Copy, Debug, PartialEq, Eq)]
@@ -15,6 +19,8 @@ pub enum Command {
     Pipe,
     /// Lints the input as one source.
     Lint,
+    /// Answers a script of so many requests in memory, and sums the replies up.
+    Mill(u32),
 }
 
 /// The command that the words after the program's name spell.
@@ -23,6 +29,7 @@ fn command_of(words: &Texts) -> Option<Command>
 {
     match words.as_slice() {
         [word] => command_named(word.as_str()),
+        [word, number] => command_counted(word.as_str(), number.as_str()),
         _ => None,
     }
 }
@@ -40,6 +47,32 @@ fn command_named(word: &str) -> Option<Command>
     }
 }
 
+/// The command that a word and a number spell.
+fn command_counted(word: &str, number: &str) -> Option<Command>
+    ensures { result ≡ command_counted (chars word.now) number.now }
+{
+    if word == "mill" {
+        Some(Command::Mill(count_of(number)?))
+    } else {
+        None
+    }
+}
+
+/// The count that a word spells: decimal digits without a leading zero, from 1 to 100,000.
+fn count_of(word: &str) -> Option<u32>
+    ensures { result ≡ count_of word.now }
+{
+    // `parse` would pass over a plus, which stands before the digits.
+    let first = word.as_bytes().first().copied().unwrap_or(b'0');
+    if first <= b'0' {
+        return None;
+    }
+    match word.parse::<u32>() {
+        Ok(count) if count <= MOST_REQUESTS => Some(count),
+        _ => None,
+    }
+}
+
 /// Does what the words after the program's name say. A fault is answered only where its object's count of faults rose.
 ///
 /// `pipe` answers each line of the input, with the publications of the lines before it. Its statuses are `Ended`, `ReadFault`,
@@ -49,6 +82,9 @@ fn command_named(word: &str) -> Option<Command>
 /// `lint` reads the whole input as one source, and writes the line with its canonical form or its errors. Its statuses are
 /// `Ended`, `ReadFault`, `WriteFault`, `LineTooLong` (the input has more than 1,048,576 bytes) and `OutOfMemory` (before
 /// anything was read).
+///
+/// `mill N`, N from 1 to 100,000, answers a script of N requests for sentences in memory, and writes the one line that sums the
+/// replies up. Its statuses are `Ended`, `WriteFault` and `OutOfMemory`, where nothing was written. It doesn't read the input.
 ///
 /// Any other words are `Usage`.
 pub fn top<S: Source, K: Sink>(alloc: Global, words: &Texts, source: &mut S, sink: &mut K) -> Status
@@ -68,6 +104,7 @@ pub fn top<S: Source, K: Sink>(alloc: Global, words: &Texts, source: &mut S, sin
     match command_of(words) {
         Some(Command::Pipe) => pipe(alloc, source, sink),
         Some(Command::Lint) => lint(alloc, source, sink),
+        Some(Command::Mill(count)) => mill(alloc, count, sink),
         None => Status::Usage,
     }
 }

@@ -29,7 +29,7 @@ fn run(rt: &HostRuntime) -> io::Result<Status> {
 fn main(rt: HostRuntime) -> ExitCode {
     let status = run(&rt).unwrap_or(Status::OutOfMemory);
     if status == Status::Usage {
-        let _ = eprintln!(rt; "usage: mf2d pipe | lint");
+        let _ = eprintln!(rt; "usage: mf2d pipe | lint | mill N");
     }
     ExitCode::from(status.number())
 }

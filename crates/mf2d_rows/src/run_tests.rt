@@ -117,7 +117,7 @@ fn every_line_gets_its_reply(rt: HostRuntime) -> Result<(), Fail> {
 #[test]
 fn other_words_are_no_command(rt: HostRuntime) -> Result<(), Fail> {
     let alloc = rt.alloc();
-    let rows: [&[&str]; 7] = [
+    let rows: [&[&str]; 12] = [
         &[],
         &["pipes"],
         &["Pipe"],
@@ -125,12 +125,48 @@ fn other_words_are_no_command(rt: HostRuntime) -> Result<(), Fail> {
         &["", "pipe"],
         &["lint", "pipe"],
         &["lin"],
+        &["mill"],
+        &["mill", "0"],
+        &["mill", "03"],
+        &["mill", "+3"],
+        &["mill", "100001"],
     ];
     for words in rows {
         let input = pieces(alloc, REQUESTS, 7)?;
         let run = run_words(alloc, words, input, Vec::new(alloc), Vec::new(alloc))?;
         assert_eq!(rt; run.status, Status::Usage, "{words:?}");
         assert!(rt; run.written.is_empty());
+    }
+    Ok(())
+}
+
+#[test]
+fn a_large_run_is_summed_up(rt: HostRuntime) -> Result<(), Fail> {
+    let alloc = rt.alloc();
+    for (count, line) in [
+        (
+            "1",
+            "{\"editions\":2,\"formats\":1,\"ok\":\"mill\",\"starts\":1,\"text_bytes\":11}\n",
+        ),
+        (
+            "3",
+            "{\"editions\":2,\"formats\":3,\"ok\":\"mill\",\"starts\":1,\"text_bytes\":25}\n",
+        ),
+        (
+            "101",
+            "{\"editions\":3,\"formats\":101,\"ok\":\"mill\",\"starts\":1,\"text_bytes\":1035}\n",
+        ),
+    ] {
+        let input = pieces(alloc, REQUESTS, 7)?;
+        let run = run_words(
+            alloc,
+            &["mill", count],
+            input,
+            Vec::new(alloc),
+            Vec::new(alloc),
+        )?;
+        assert_eq!(rt; run.status, Status::Ended);
+        assert_eq!(rt; str::from_utf8(&run.written), Ok(line));
     }
     Ok(())
 }
