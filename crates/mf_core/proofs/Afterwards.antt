@@ -1,4 +1,4 @@
--- What the parts of a World say after an event.
+-- What the board of a World say after an event.
 use Rattle.std.proofs.Common.{◌≡◌, ◌∙◌, ℕ, zero, suc, ◌+◌, ◌≤◌, ◌<◌, ◌^◌, List, [], ◌∷◌, length, Bool, true, false, Option, Some, None, ◌⊎◌, inl, inr, ⊎_elim, refl, ap, sym, subst, arith}
 use Rattle.std.specs.Prelude.{◌==◌, ◌&&◌, ◌||◌, not, nat_le, nat_lt, IfSome, Ok, Err, if◌then◌else◌}
 use Rattle.std.specs.Option.{unwrap_or}
@@ -20,11 +20,15 @@ use Rattle.mf_core.specs.declared.error.CoreError.TheVariants.{CallersFull, NotY
 use Rattle.mf_core.specs.declared.event.Event.{Event}
 use Rattle.mf_core.specs.declared.event.Told.{Told}
 use Rattle.mf_core.specs.declared.held.Held.{Held}
-use Rattle.mf_core.specs.declared.parts.Parts.{Parts}
+use Rattle.mf_core.specs.declared.board.Board.{Board}
 use Rattle.mf_core.specs.Worlds.{World, is_at, is_live, pins, swept, with_caller}
 use Rattle.mf_core.specs.Steps.{limit, maker, most_callers, refusal, row, IsDue, IsYours}
 use Rattle.mf_core.specs.Valid.{Valid}
-use Rattle.mf_core.specs.Kept.{held_at, is_dead, parts_world, repinned, Does, IsKept}
+use Rattle.mf_flight.specs.declared.flights.Flights.{Flights}
+use Rattle.mf_flight.specs.Flights.{slot_of}
+use Rattle.mf_core.specs.declared.event.Told.TheVariants as told_as
+use Rattle.mf_core.specs.Kept.{blank, blank_state, board_world, held_at, is_dead, repinned, Does, IsKept}
+use Rattle.mf_core.specs.Steps.{asked_row}
 use Rattle.mf_core.proofs.Puts.{both_cases, both_here, by_bool, here, is_at_some, there}
 use Rattle.mf_core.proofs.Pins.{counts, live_cases, live_newest, live_pin}
 use Rattle.mf_core.proofs.Claims.{nothing_claimed}
@@ -40,6 +44,16 @@ pin_low w v n (Some e) is = let a = v.seen.pin n e is in let b = v.seen.most n i
 pub same_world : (w x : World) → w.log ≡ x.log → w.next ≡ x.next → ((n : ℕ) → w.caller n ≡ x.caller n)
     → ((e i : ℕ) → w.slot e i ≡ x.slot e i) → w ≡ x
 same_world w x log next caller slot = λ k. record { log = log k; next = next k; caller = λ n. caller n k; slot = λ e i. slot e i k }
+
+-- a board with other entries
+abbrev pub with_flights : {P : Type 0} → Board P → Flights P → Board P
+with_flights board flights = record { log = board.log; callers = board.callers; editions = board.editions; flights = flights }
+
+-- where each is as it was, the World is
+pub same_flights : {P : Type 0} (board : Board P) (flights : Flights P)
+    → ((e i : ℕ) → slot_of flights e i ≡ slot_of board.flights e i) → board_world (with_flights board flights) ≡ board_world board
+same_flights board flights slots =
+    same_world (board_world (with_flights board flights)) (board_world board) refl refl (λ n. refl) (λ e i. ap blank (slots e i))
 
 -- an event that is its maker's, and meets no limit, isn't refused
 no_refusal : (w : World) (event : Event) → IsYours w event → limit w event ≡ None → refusal w event ≡ None
@@ -123,22 +137,22 @@ pins_stay w n new e same m pin = ⊎_elim
     (λ (other : m ≡ n → ⊥). ap (λ (c : CallerState). c.pinned) (there w.caller n new m other) ∙ pin) (cases_eq m n)
 
 -- what is held after an event is right, where the counts are
-pub kept_after : (parts parts' : Parts) (event : Event) → EditionsStay → IsKept parts → IsYours (parts_world parts) event
-    → limit (parts_world parts) event ≡ None → parts_world parts' ≡ swept (row (parts_world parts) event).1
-    → length parts'.editions.items ≡ length parts'.publications + 1
-    → ((e : ℕ) → e ≤ length parts'.publications → (held_at parts'.editions.items e).messages ≡ length (edition_of parts'.publications e).items)
-    → ((e : ℕ) → (held_at parts'.editions.items e).pins ≡ pins (row (parts_world parts) event).1 e) → IsKept parts'
-kept_after parts parts' event stay kept yours none is many messages counted = record {
-  valid = subst Valid (sym is) (swept_valid (row (parts_world parts) event).1 (row_sound (parts_world parts) kept.valid stay event yours none));
+pub kept_after : {P : Type 0} (board board' : Board P) (event : Event) → EditionsStay → IsKept board → IsYours (board_world board) event
+    → limit (board_world board) event ≡ None → board_world board' ≡ swept (row (board_world board) event).1
+    → length board'.editions.items ≡ length board'.log + 1
+    → ((e : ℕ) → e ≤ length board'.log → (held_at board'.editions.items e).messages ≡ length (edition_of board'.log e).items)
+    → ((e : ℕ) → (held_at board'.editions.items e).pins ≡ pins (row (board_world board) event).1 e) → IsKept board'
+kept_after board board' event stay kept yours none is many messages counted = record {
+  valid = subst Valid (sym is) (swept_valid (row (board_world board) event).1 (row_sound (board_world board) kept.valid stay event yours none));
   many = many;
   messages = messages;
   counted = λ e. counted e ∙ ap (λ (w : World). pins w e) (sym is);
 }
 
--- parts that say the same of the World and of editions
-pub kept_same : (parts parts' : Parts) → parts_world parts' ≡ parts_world parts → parts'.editions.items ≡ parts.editions.items → IsKept parts → IsKept parts'
-kept_same parts parts' is held kept =
-    let log : parts'.publications ≡ parts.publications = ap (λ (w : World). w.log) is in
+-- board that say the same of the World and of editions
+pub kept_same : {P : Type 0} (board board' : Board P) → board_world board' ≡ board_world board → board'.editions.items ≡ board.editions.items → IsKept board → IsKept board'
+kept_same board board' is held kept =
+    let log : board'.log ≡ board.log = ap (λ (w : World). w.log) is in
     record {
       valid = subst Valid (sym is) kept.valid;
       many = ap length held ∙ kept.many ∙ ap (λ (l : List Entry). length l + 1) (sym log);
@@ -147,15 +161,19 @@ kept_same parts parts' is held kept =
       counted = λ e. ap (λ (l : List Held). (held_at l e).pins) held ∙ kept.counted e ∙ ap (λ (w : World). pins w e) (sym is);
     }
 
+pub kept_flights : {P : Type 0} (board : Board P) (flights : Flights P)
+    → ((e i : ℕ) → slot_of flights e i ≡ slot_of board.flights e i) → IsKept board → IsKept (with_flights board flights)
+kept_flights board flights slots kept = kept_same board (with_flights board flights) (same_flights board flights slots) refl kept
+
 -- what is held after an event that moves pins alone
-pub kept_moved : (parts parts' : Parts) (event : Event) (x : World) → EditionsStay → IsKept parts → IsYours (parts_world parts) event
-    → limit (parts_world parts) event ≡ None → x ≡ (row (parts_world parts) event).1 → x.log ≡ parts.publications
-    → parts_world parts' ≡ swept x → length parts'.editions.items ≡ length parts.editions.items
-    → ((e : ℕ) → (held_at parts'.editions.items e).messages ≡ (held_at parts.editions.items e).messages)
-    → ((e : ℕ) → (held_at parts'.editions.items e).pins ≡ pins x e) → IsKept parts'
-kept_moved parts parts' event x stay kept yours none row_is same is many messages counted =
-    let log : parts'.publications ≡ parts.publications = ap (λ (w : World). w.log) is ∙ same in
-    kept_after parts parts' event stay kept yours none (is ∙ ap swept row_is) (many ∙ kept.many ∙ ap (λ (l : List Entry). length l + 1) (sym log))
+pub kept_moved : {P : Type 0} (board board' : Board P) (event : Event) (x : World) → EditionsStay → IsKept board → IsYours (board_world board) event
+    → limit (board_world board) event ≡ None → x ≡ (row (board_world board) event).1 → x.log ≡ board.log
+    → board_world board' ≡ swept x → length board'.editions.items ≡ length board.editions.items
+    → ((e : ℕ) → (held_at board'.editions.items e).messages ≡ (held_at board.editions.items e).messages)
+    → ((e : ℕ) → (held_at board'.editions.items e).pins ≡ pins x e) → IsKept board'
+kept_moved board board' event x stay kept yours none row_is same is many messages counted =
+    let log : board'.log ≡ board.log = ap (λ (w : World). w.log) is ∙ same in
+    kept_after board board' event stay kept yours none (is ∙ ap swept row_is) (many ∙ kept.many ∙ ap (λ (l : List Entry). length l + 1) (sym log))
     (λ e low. messages e ∙ kept.messages e (subst (λ (l : List Entry). e ≤ length l) log low)
     ∙ ap (λ (l : List Entry). length (edition_of l e).items) (sym log))
     (λ e. counted e ∙ ap (λ (w : World). pins w e) row_is)
@@ -169,19 +187,19 @@ sum_le f (suc n) = let a = sum_le f n in let b = one_le (f n) in omega arith
     one_le false = omega arith
 
 -- there is room to count one more pin
-pub pins_room : (parts : Parts) → IsKept parts → (e : ℕ) → (held_at parts.editions.items e).pins + 1 < 2 ^ 32
-pins_room parts kept e =
-    let a = kept.counted e in let b = sum_le (λ n. is_at e ((parts_world parts).caller n).pinned) (parts_world parts).next in
+pub pins_room : {P : Type 0} (board : Board P) → IsKept board → (e : ℕ) → (held_at board.editions.items e).pins + 1 < 2 ^ 32
+pins_room board kept e =
+    let a = kept.counted e in let b = sum_le (λ n. is_at e ((board_world board).caller n).pinned) (board_world board).next in
     let d = kept.valid.callers in omega arith
 
 -- what a caller has pinned is held, and its pin is counted
-pub pin_held : (parts : Parts) → IsKept parts → (n : ℕ) → n < length parts.seats.items → (o : Option ℕ)
-    → ((parts_world parts).caller n).pinned ≡ o → IfSome o (λ e. (e < length parts.editions.items) × (0 < (held_at parts.editions.items e).pins))
-pin_held parts kept n less None is = tt
-pin_held parts kept n less (Some e) is =
+pub pin_held : {P : Type 0} (board : Board P) → IsKept board → (n : ℕ) → n < length board.callers.items → (o : Option ℕ)
+    → ((board_world board).caller n).pinned ≡ o → IfSome o (λ e. (e < length board.editions.items) × (0 < (held_at board.editions.items e).pins))
+pin_held board kept n less None is = tt
+pin_held board kept n less (Some e) is =
     let a = kept.valid.seen.pin n e is in let b = kept.valid.seen.most n in let d = kept.many in let f = kept.counted e in
-    let g = counts (λ m. is_at e ((parts_world parts).caller m).pinned) n (parts_world parts).next less
-    (is_at_some e ((parts_world parts).caller n).pinned is) in
+    let g = counts (λ m. is_at e ((board_world board).caller m).pinned) n (board_world board).next less
+    (is_at_some e ((board_world board).caller n).pinned is) in
     (omega arith, omega arith)
 
 pub held_edition : (o : Option ℕ) (newest many : ℕ) (P : ℕ → Type 0) → IfSome o (λ e. (e < many) × P e) → newest < many → unwrap_or o newest < many
@@ -242,28 +260,41 @@ no_join_limit next less = ap (λ b. if b then Some CallersFull else None) (not_l
     not_le a b less = grind (arith, nat_tests)
 
 -- an answer tells the state
-pub was_idle : (s : State (Unit {0})) (e i : ℕ) (t : ℕ × ℕ) → answer_to s e i ≡ asked_as.Claimed t → (s ≡ state.Idle) × (t ≡ (e, i))
+pub was_idle : {P : Type 0} (s : State P) (e i : ℕ) (t : ℕ × ℕ) → answer_to s e i ≡ asked_as.Claimed t → (s ≡ state.Idle) × (t ≡ (e, i))
 was_idle state.Idle e i t is = (refl, cc)
 was_idle state.Claimed e i t is = absurd (cc)
 was_idle (state.Ready plan) e i t is = absurd (cc)
 
-pub was_busy : (s : Slot (Unit {0})) (e i : ℕ) → answer_to s.state e i ≡ asked_as.Busy → asked s ≡ s
-was_busy s e i is = by s.state refl is
+pub was_busy : {P : Type 0} (s : Slot P) (e i : ℕ) → answer_to s.state e i ≡ asked_as.Busy → asked s ≡ s
+was_busy {P} s e i is = by s.state refl is
   where
-    by : (x : State (Unit {0})) → s.state ≡ x → answer_to x e i ≡ asked_as.Busy → asked s ≡ s
+    by : (x : State P) → s.state ≡ x → answer_to x e i ≡ asked_as.Busy → asked s ≡ s
     by state.Idle was is = absurd (cc)
     by state.Claimed was is = λ k. record { state = (ap state_asked was ∙ sym was) k; quits = s.quits }
     by (state.Ready plan) was is = absurd (cc)
 
-pub was_ready : (s : Slot (Unit {0})) (e i : ℕ) → answer_to s.state e i ≡ asked_as.Ready → asked s ≡ s
-was_ready s e i is = by s.state refl is
+pub was_ready : {P : Type 0} (s : Slot P) (e i : ℕ) → answer_to s.state e i ≡ asked_as.Ready → asked s ≡ s
+was_ready {P} s e i is = by s.state refl is
   where
-    by : (x : State (Unit {0})) → s.state ≡ x → answer_to x e i ≡ asked_as.Ready → asked s ≡ s
+    by : (x : State P) → s.state ≡ x → answer_to x e i ≡ asked_as.Ready → asked s ≡ s
     by state.Idle was is = absurd (cc)
     by state.Claimed was is = absurd (cc)
     by (state.Ready plan) was is = λ k. record { state = (ap state_asked was ∙ sym was) k; quits = s.quits }
 
-pub asked_idle : (s : Slot (Unit {0})) → s.state ≡ state.Idle → asked s ≡ claimed s
+-- what is told of an entry that isn't idle, and that nothing changes
+pub row_ready : {P : Type 0} (w : World) (n e i : ℕ) (s : State P) → answer_to s e i ≡ asked_as.Ready
+    → asked_row w n e i (blank_state s) ≡ (told_as.Ready, w)
+row_ready w n e i state.Idle is = absurd (cc)
+row_ready w n e i state.Claimed is = absurd (cc)
+row_ready w n e i (state.Ready plan) is = refl
+
+pub row_busy : {P : Type 0} (w : World) (n e i : ℕ) (s : State P) → answer_to s e i ≡ asked_as.Busy
+    → asked_row w n e i (blank_state s) ≡ (told_as.Busy, w)
+row_busy w n e i state.Idle is = absurd (cc)
+row_busy w n e i state.Claimed is = refl
+row_busy w n e i (state.Ready plan) is = absurd (cc)
+
+pub asked_idle : {P : Type 0} (s : Slot P) → s.state ≡ state.Idle → asked s ≡ claimed s
 asked_idle s is = λ k. record { state = ap state_asked is k; quits = s.quits }
 
 -- what is put where it is already changes nothing

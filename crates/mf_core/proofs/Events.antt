@@ -12,7 +12,7 @@ use Rattle.mf_legal.specs.Calls.{one_if}
 use Rattle.mf_core.specs.declared.caller.CallerState.{CallerState}
 use Rattle.mf_core.specs.declared.event.Event.TheVariants.{Join, Ask, Done, Quit, Leave}
 use Rattle.mf_core.specs.declared.event.Told.TheVariants.{Ended}
-use Rattle.mf_core.specs.declared.seat.Seat.{Seat}
+use Rattle.mf_core.specs.declared.caller.CallerState.{CallerState}
 use Rattle.mf_core.specs.Worlds.{away, World, is_at, is_live, pins, swept, with_caller, with_slot}
 use Rattle.mf_core.specs.Steps.{asked_row, ask_row, done_row, quit_row, row}
 use Rattle.mf_core.specs.Valid.{Valid}
@@ -23,9 +23,9 @@ use Rattle.mf_core.proofs.Rows.{joined_below, sound}
 use Rattle.mf_core.proofs.Afterwards.{none_swept, same_world}
 
 -- what is put into a list that is another's
-pub puts_into : (f : CallerState → CallerState) (old other new : List Seat) (n : ℕ) → other ≡ old
+pub puts_into : (f : CallerState → CallerState) (old other new : List CallerState) (n : ℕ) → other ≡ old
     → PutsState other new n (f (state_at other n)) → PutsState old new n (f (state_at old n))
-puts_into f old other new n is puts = subst (λ (s : List Seat). PutsState s new n (f (state_at s n))) is puts
+puts_into f old other new n is puts = subst (λ (s : List CallerState). PutsState s new n (f (state_at s n))) is puts
 
 -- an event with a joined caller has one with a seat
 pub has_seat : (w : World) → Valid w → (n : ℕ) → (w.caller n).joined ≡ true → n < w.next

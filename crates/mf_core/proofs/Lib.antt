@@ -1,4 +1,5 @@
 pub mod Puts
+pub mod Boards
 pub mod Pins
 pub mod Logs
 pub mod Claims
@@ -8,6 +9,7 @@ pub mod Counts
 pub mod Afterwards
 pub mod Events
 pub mod Published
+pub mod Wholes
 pub mod Answered
 pub mod Moments
 pub mod Together

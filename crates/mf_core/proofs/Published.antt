@@ -9,10 +9,10 @@ use Rattle.mf_flight.specs.Slots.{fresh}
 use Rattle.mf_core.specs.declared.caller.CallerState.{CallerState}
 use Rattle.mf_core.specs.declared.event.Event.TheVariants.{Publish}
 use Rattle.mf_core.specs.declared.held.Held.{Held}
-use Rattle.mf_core.specs.declared.parts.Parts.{Parts}
+use Rattle.mf_core.specs.declared.board.Board.{Board}
 use Rattle.mf_core.specs.Worlds.{World, is_live, pins, swept}
 use Rattle.mf_core.specs.Steps.{row}
-use Rattle.mf_core.specs.Kept.{held_at, is_dead, parts_world, repinned, IsKept, MovesPin}
+use Rattle.mf_core.specs.Kept.{held_at, is_dead, board_world, repinned, IsKept, MovesPin}
 use Rattle.mf_core.specs.Worlds.{is_at}
 use Rattle.mf_legal.specs.Calls.{one_if}
 use Rattle.mf_core.proofs.Puts.{part_stays}
@@ -21,11 +21,11 @@ use Rattle.mf_core.proofs.Events.{pins_same}
 use Rattle.mf_core.proofs.Afterwards.{dead_is, may_die, none_claimed, same_world, swept_slots}
 
 -- the pins that are held after one caller's pin has changed
-pub repin_counted : (parts : Parts) (editions : List Held) → IsKept parts → (n : ℕ) → n < length parts.seats.items → (to : Option ℕ) (seen : ℕ)
-    → (from : Option ℕ) → from ≡ ((parts_world parts).caller n).pinned → MovesPin parts.editions.items editions from to
-    → (e : ℕ) → (held_at editions e).pins ≡ pins (repinned (parts_world parts) n to seen) e
-repin_counted parts editions kept n less to seen from is moves e =
-    let w : World = parts_world parts in
+pub repin_counted : {P : Type 0} (board : Board P) (editions : List Held) → IsKept board → (n : ℕ) → n < length board.callers.items → (to : Option ℕ) (seen : ℕ)
+    → (from : Option ℕ) → from ≡ ((board_world board).caller n).pinned → MovesPin board.editions.items editions from to
+    → (e : ℕ) → (held_at editions e).pins ≡ pins (repinned (board_world board) n to seen) e
+repin_counted board editions kept n less to seen from is moves e =
+    let w : World = board_world board in
     let new : CallerState = record (w.caller n) { pinned = to; seen = seen } in
     let a = moves.pins e in let b = pins_moved w n new e less in let d = kept.counted e in
     let f = ap (λ o. one_if (is_at e o)) is in omega arith
@@ -47,33 +47,33 @@ pushed_last [] held = refl
 pushed_last (first ∷ editions) held = pushed_last editions held
 
 -- the messages that are held after a publication
-pub published_messages : (parts : Parts) (editions : List Held) (log : List Entry) (entry : Entry) (count : ℕ) → IsKept parts → EditionsStay → NewestIsLast
-    → editions ≡ parts.editions.items ++ record { messages = count; pins = 0 } ∷ [] → log ≡ parts.publications ++ entry ∷ []
+pub published_messages : {P : Type 0} (board : Board P) (editions : List Held) (log : List Entry) (entry : Entry) (count : ℕ) → IsKept board → EditionsStay → NewestIsLast
+    → editions ≡ board.editions.items ++ record { messages = count; pins = 0 } ∷ [] → log ≡ board.log ++ entry ∷ []
     → count ≡ length (newest_edition log).items → (e : ℕ) → e ≤ length log → (held_at editions e).messages ≡ length (edition_of log e).items
-published_messages parts editions log entry count kept stay last editions_is log_is counts e low =
-    let long : length log ≡ length parts.publications + 1 = ap length log_is ∙ length-append parts.publications (entry ∷ []) in
+published_messages board editions log entry count kept stay last editions_is log_is counts e low =
+    let long : length log ≡ length board.log + 1 = ap length log_is ∙ length-append board.log (entry ∷ []) in
     let many = kept.many in
     let held : Held = record { messages = count; pins = 0 } in
     ⊎_elim
-    (λ (earlier : e ≤ length parts.publications).
+    (λ (earlier : e ≤ length board.log).
     ap (λ (l : List Held). (held_at l e).messages) editions_is
-    ∙ ap (λ (h : Held). h.messages) (pushed_before parts.editions.items held e (omega arith))
-    ∙ kept.messages e earlier ∙ ap (λ k. length k.items) (sym (stay parts.publications (entry ∷ []) e earlier))
+    ∙ ap (λ (h : Held). h.messages) (pushed_before board.editions.items held e (omega arith))
+    ∙ kept.messages e earlier ∙ ap (λ k. length k.items) (sym (stay board.log (entry ∷ []) e earlier))
     ∙ ap (λ (l : List Entry). length (edition_of l e).items) (sym log_is))
-    (λ (new : length parts.publications < e).
-    let here : e ≡ length parts.editions.items = omega arith in let there : e ≡ length log = omega arith in
+    (λ (new : length board.log < e).
+    let here : e ≡ length board.editions.items = omega arith in let there : e ≡ length log = omega arith in
     ap (λ (l : List Held). (held_at l e).messages) editions_is
-    ∙ ap (λ k. (held_at (parts.editions.items ++ held ∷ []) k).messages) here
-    ∙ ap (λ (h : Held). h.messages) (pushed_last parts.editions.items held)
+    ∙ ap (λ k. (held_at (board.editions.items ++ held ∷ []) k).messages) here
+    ∙ ap (λ (h : Held). h.messages) (pushed_last board.editions.items held)
     ∙ counts ∙ ap (λ k. length k.items) (sym (last log)) ∙ ap (λ k. length (edition_of log k).items) (sym there))
-    (low_or_not e (length parts.publications))
+    (low_or_not e (length board.log))
   where
     low_or_not : (a b : ℕ) → (a ≤ b) ⊎ (b < a)
     low_or_not a b = grind arith
 
-module _ (parts : Parts) (n : ℕ) (change : Change) (kept : IsKept parts) (less : n < length parts.seats.items) where
+module _ {P : Type 0} (board : Board P) (n : ℕ) (change : Change) (kept : IsKept board) (less : n < length board.callers.items) where
   abbrev world : World
-  world = parts_world parts
+  world = board_world board
 
   abbrev made_row : World
   made_row = (row world (Publish n change)).1
@@ -83,21 +83,21 @@ module _ (parts : Parts) (n : ℕ) (change : Change) (kept : IsKept parts) (less
   published_pins e =
       pins_same world n (record (world.caller n) { made = (world.caller n).made + 1; seen = length world.log + 1 }) less refl e
 
-  pub published_counted : (editions : List Held) (count : ℕ) → editions ≡ parts.editions.items ++ record { messages = count; pins = 0 } ∷ []
+  pub published_counted : (editions : List Held) (count : ℕ) → editions ≡ board.editions.items ++ record { messages = count; pins = 0 } ∷ []
       → (e : ℕ) → (held_at editions e).pins ≡ pins made_row e
   published_counted editions count is e =
-      ap (λ (l : List Held). (held_at l e).pins) is ∙ pushed_pins parts.editions.items (record { messages = count; pins = 0 }) refl e
+      ap (λ (l : List Held). (held_at l e).pins) is ∙ pushed_pins board.editions.items (record { messages = count; pins = 0 }) refl e
       ∙ kept.counted e ∙ sym (published_pins e)
 
   same_pins : (m : ℕ) → (made_row.caller m).pinned ≡ (world.caller m).pinned
   same_pins m = part_stays (λ (c : CallerState). c.pinned) world.caller n
       (record (world.caller n) { made = (world.caller n).made + 1; seen = length world.log + 1 }) refl m
 
-  pub published_dead : (editions : List Held) (count before : ℕ) → editions ≡ parts.editions.items ++ record { messages = count; pins = 0 } ∷ []
-      → before ≡ length parts.publications → is_dead editions (before + 1) before ≡ not (is_live made_row before)
+  pub published_dead : (editions : List Held) (count before : ℕ) → editions ≡ board.editions.items ++ record { messages = count; pins = 0 } ∷ []
+      → before ≡ length board.log → is_dead editions (before + 1) before ≡ not (is_live made_row before)
   published_dead editions count before is newest =
       dead_is editions made_row (before + 1) before
-      (ap (λ k. k + 1) newest ∙ sym (length-append parts.publications (record { caller = n; nth = (world.caller n).made + 1; change = change } ∷ [])))
+      (ap (λ k. k + 1) newest ∙ sym (length-append board.log (record { caller = n; nth = (world.caller n).made + 1; change = change } ∷ [])))
       (published_counted editions count is before)
 
   -- no entry is claimed of an edition that a publication leaves dead
@@ -105,7 +105,7 @@ module _ (parts : Parts) (n : ℕ) (change : Change) (kept : IsKept parts) (less
   published_free = none_claimed world made_row kept.valid (omega arith) (λ m e i own. same_pins m)
 
   -- the World after a publication
-  pub published_world : (v : World) (before : ℕ) (dead : Bool) → before ≡ length parts.publications → dead ≡ not (is_live made_row before)
+  pub published_world : (v : World) (before : ℕ) (dead : Bool) → before ≡ length board.log → dead ≡ not (is_live made_row before)
       → v.log ≡ made_row.log → v.next ≡ world.next → ((m : ℕ) → v.caller m ≡ made_row.caller m)
       → ((e i : ℕ) → v.slot e i ≡ (if (e == before) && dead then fresh else world.slot e i)) → v ≡ swept made_row
   published_world v before dead newest is log next caller slots =

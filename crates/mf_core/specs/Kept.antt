@@ -1,38 +1,62 @@
--- For private clauses: what the parts of a World say.
-use Rattle.std.specs.Prelude.{◌≡◌, ◌+◌, ◌==◌, ◌≤◌, ◌&&◌, ◌||◌, ℕ, Bool, true, not, nat_lt, List, length, slice_get, Option, None, Some, Result, MatchResult, if◌then◌else◌}
+-- What a board is seen as; from `IsKept` on for private clauses.
+use Rattle.std.specs.Prelude.{◌≡◌, ◌⊎◌, ◌+◌, ◌==◌, ◌≤◌, ◌&&◌, ◌||◌, ℕ, Bool, true, not, nat_lt, List, length, slice_get, Option, None, Some, Result, MatchResult, if◌then◌else◌}
 use Rattle.mf_edition.specs.Edition.{edition_of}
 use Rattle.mf_flight.specs.declared.flights.Flights.{Flights}
 use Rattle.mf_flight.specs.Flights.{slot_of}
-use Rattle.mf_flight.specs.Slots.{fresh}
+use Rattle.mf_flight.specs.Slots.{fresh, plan_of}
+use Rattle.mf_flight.specs.declared.slot.Slot.{Slot}
+use Rattle.mf_flight.specs.declared.slot.State.{State}
+use Rattle.mf_flight.specs.declared.slot.State.TheVariants.{Idle, Claimed, Ready}
 use Rattle.mf_legal.specs.Calls.{one_if}
 use Rattle.mf_core.specs.declared.caller.CallerState.{CallerState}
 use Rattle.mf_core.specs.declared.error.CoreError.{CoreError}
 use Rattle.mf_core.specs.declared.event.Event.{Event}
 use Rattle.mf_core.specs.declared.event.Told.{Told}
 use Rattle.mf_core.specs.declared.held.Held.{Held}
-use Rattle.mf_core.specs.declared.seat.Seat.{Seat}
-use Rattle.mf_core.specs.declared.parts.Parts.{Parts}
+use Rattle.mf_core.specs.declared.board.Board.{Board}
 use Rattle.mf_core.specs.Worlds.{away, World, is_at, pins, with_caller}
 use Rattle.mf_core.specs.Steps.{refusal, IsDue, Step}
 use Rattle.mf_core.specs.Valid.{Valid}
 
--- the state of a seat, or that of a caller without one
-abbrev pub state_of : Option Seat → CallerState
-state_of None = away
-state_of (Some seat) =
-    record { joined = seat.joined; made = seat.made; seen = seat.seen; pinned = seat.pinned; claim = seat.ticket }
+-- a state, without what is ready
+abbrev pub blank_state : {P : Type 0} → State P → State (Unit {0})
+blank_state Idle = Idle
+blank_state Claimed = Claimed
+blank_state (Ready plan) = Ready tt
 
-abbrev pub state_at : List Seat → ℕ → CallerState
-state_at seats n = state_of (slice_get seats n)
+-- an entry, without what it is ready with
+abbrev pub blank : {P : Type 0} → Slot P → Slot (Unit {0})
+blank slot = record { state = blank_state slot.state; quits = slot.quits }
 
--- the World that parts are
-abbrev pub parts_world : Parts → World
-parts_world parts = record {
-  log = parts.publications;
-  next = length parts.seats.items;
-  caller = λ n. state_at parts.seats.items n;
-  slot = λ e i. slot_of parts.flights e i;
+-- the state that is kept of a caller, or that of one of whom nothing is
+abbrev pub or_away : Option CallerState → CallerState
+or_away None = away
+or_away (Some state) = state
+
+abbrev pub state_at : List CallerState → ℕ → CallerState
+state_at callers n = or_away (slice_get callers n)
+
+-- the World that a board is
+abbrev pub board_world : {P : Type 0} → Board P → World
+board_world board = record {
+  log = board.log;
+  next = length board.callers.items;
+  caller = λ n. state_at board.callers.items n;
+  slot = λ e i. blank (slot_of board.flights e i);
 }
+
+-- what the entry of an edition and an index is ready with, if it is ready
+abbrev pub plan_at : {P : Type 0} → Board P → ℕ → ℕ → Option P
+plan_at board e i = plan_of (slot_of board.flights e i).state
+
+-- what is ready was ready before, with the same plan
+abbrev pub KeepsPlans : {P : Type 0} → Board P → Board P → Type 0
+KeepsPlans {P} old new = (e i : ℕ) (plan : P) → plan_at new e i ≡ Some plan → plan_at old e i ≡ Some plan
+
+-- the same, but for one entry, which may be ready with this
+abbrev pub GainsPlan : {P : Type 0} → Board P → Board P → ℕ × ℕ → P → Type 0
+GainsPlan {P} old new spent made = (e i : ℕ) (plan : P) → plan_at new e i ≡ Some plan
+    → (plan_at old e i ≡ Some plan) ⊎ ((e ≡ spent.0) × (i ≡ spent.1) × (plan ≡ made))
 
 -- what is held of an edition
 abbrev pub held_of : Option Held → Held
@@ -47,19 +71,19 @@ abbrev pub repinned : World → ℕ → Option ℕ → ℕ → World
 repinned w n to seen = with_caller w n (record (w.caller n) { pinned = to; seen = seen })
 
 -- of each edition its messages and its pins are held, and the World is valid
-pub record IsKept (parts : Parts) : Type 0 where
-  pub valid : Valid (parts_world parts)
-  pub many : length parts.editions.items ≡ length parts.publications + 1
-  pub messages : (e : ℕ) → e ≤ length parts.publications → (held_at parts.editions.items e).messages ≡ length (edition_of parts.publications e).items
-  pub counted : (e : ℕ) → (held_at parts.editions.items e).pins ≡ pins (parts_world parts) e
+pub record IsKept {P : Type 0} (board : Board P) : Type 0 where
+  pub valid : Valid (board_world board)
+  pub many : length board.editions.items ≡ length board.log + 1
+  pub messages : (e : ℕ) → e ≤ length board.log → (held_at board.editions.items e).messages ≡ length (edition_of board.log e).items
+  pub counted : (e : ℕ) → (held_at board.editions.items e).pins ≡ pins (board_world board) e
 
 -- one caller's state is this one, and every other is as it was
-pub record PutsState (old new : List Seat) (n : ℕ) (state : CallerState) : Type 0 where
+pub record PutsState (old new : List CallerState) (n : ℕ) (state : CallerState) : Type 0 where
   pub many : length new ≡ length old
   pub states : (m : ℕ) → state_at new m ≡ (if m == n then state else state_at old m)
 
 -- one caller more has joined, and has seen so much
-abbrev pub JoinsState : List Seat → List Seat → ℕ → Type 0
+abbrev pub JoinsState : List CallerState → List CallerState → ℕ → Type 0
 JoinsState old new seen = (m : ℕ) → state_at new m ≡ (if m == length old then record away { joined = true; seen = seen } else state_at old m)
 
 -- the pins of one edition go to another
@@ -73,7 +97,7 @@ abbrev pub is_dead : List Held → ℕ → ℕ → Bool
 is_dead editions newest e = not ((e == newest) || nat_lt 0 (held_at editions e).pins)
 
 -- the entries of an edition are gone where it is dead, and every other is as it was
-abbrev pub DropsDead : List Held → ℕ → ℕ → Flights (Unit {0}) → Flights (Unit {0}) → Type 0
+abbrev pub DropsDead : {P : Type 0} → List Held → ℕ → ℕ → Flights P → Flights P → Type 0
 DropsDead editions newest edition old new =
     (e i : ℕ) → slot_of new e i ≡ (if (e == edition) && is_dead editions newest edition then fresh else slot_of old e i)
 

@@ -54,7 +54,12 @@ pub(crate) fn move_pin(editions: &mut Vec<Held>, from: Option<u64>, to: Option<u
 }
 
 /// Drops the entries of an edition that is dead.
-pub(crate) fn drop_dead(flights: &mut Flights<()>, editions: &Vec<Held>, newest: u64, edition: u64)
+pub(crate) fn drop_dead<P: Drop>(
+    flights: &mut Flights<P>,
+    editions: &Vec<Held>,
+    newest: u64,
+    edition: u64,
+)
     requires there { edition < length editions.now.items }
     requires free { is_dead editions.now.items newest edition ≡ true → (i : ℕ) → (slot_of flights.old edition i).state ≢ Claimed }
     ensures { DropsDead editions.now.items newest edition flights.old flights.new }
