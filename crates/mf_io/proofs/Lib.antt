@@ -1,4 +1,5 @@
 pub mod Counts
+pub mod Crossing
 pub mod Gathering
 pub mod Pieces
 pub mod Sending

@@ -6,9 +6,9 @@ ghost use Rattle.mf_io.specs.Faults.{HasCause};
 
 use thiserror::Error;
 
-/// A call of a source or of a sink failed, and its count of faults rose or stands at its last value.
+/// A call of a source, a sink or a listener failed, and its count of faults rose or stands at its last value.
 #[derive(Clone, Copy, Debug, PartialEq, Eq, Error)]
-#[error("reading or writing failed")]
+#[error("reading, writing or accepting failed")]
 pub struct Failed;
 
 /// Bytes to read, which come in parts.
