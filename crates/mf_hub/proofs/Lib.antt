@@ -1,3 +1,10 @@
 pub mod Ready
+pub mod Sums
+pub mod Accounts
+pub mod Storing
+pub mod Growing
+pub mod Turned
+pub mod Closing
 pub mod Compiled
 pub mod Desks
+pub mod Crossing

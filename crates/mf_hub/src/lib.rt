@@ -3,7 +3,14 @@
 
 mod alone;
 mod compiling;
+mod error;
+mod hub;
+mod pass;
 mod stat;
+mod store;
 
 pub use alone::Alone;
+pub use error::CloseError;
+pub use hub::Hub;
+pub use pass::{Note, Pass};
 pub use stat::Stat;
