@@ -1,0 +1,9 @@
+use Rattle.std.proofs.Common.{◌≡◌, All}
+use Rattle.mf_hub_rows.specs.Crowds.{IsOf}
+use Rattle.mf_hub_rows.proofs.crowd.share_notes.Given as goal
+
+abbrev pub invariant-loop-next : goal.invariant-loop-next
+invariant-loop-next l = (l.home.hub ≡ l.hub) × All (IsOf l.hub) l.passes.items × All (IsOf l.hub) l.shared.items
+
+abbrev pub decreases-loop-next : goal.decreases-loop-next
+decreases-loop-next l = l.passes.len

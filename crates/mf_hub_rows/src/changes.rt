@@ -1,0 +1,25 @@
+//! Changes to publish.
+use mf_edition::{Catalogue, Change};
+use mf_locale::{SharedRecord, Tag, read_tag, root};
+use std::alloc::{AllocError, Global};
+
+/// A publication of one English message with this id.
+pub fn message(alloc: Global, id: &str) -> Result<Change, AllocError> {
+    let mut catalogue = Catalogue::new(alloc, english(alloc)?, 1)?;
+    catalogue.put(alloc, id, "Hello!")?;
+    Ok(Change::Catalogue(catalogue))
+}
+
+/// A publication of a locale record that counts for one byte more than a log may hold.
+pub fn too_large(alloc: Global) -> Result<Change, AllocError> {
+    let place = SharedRecord::new(alloc, root(alloc)?)?;
+    Ok(Change::Locale {
+        tag: english(alloc)?,
+        place,
+        size: 268_435_457,
+    })
+}
+
+fn english(alloc: Global) -> Result<Tag, AllocError> {
+    read_tag(alloc, "en").map_err(|_| AllocError)
+}
