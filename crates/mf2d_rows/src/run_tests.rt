@@ -156,6 +156,10 @@ fn a_large_run_is_summed_up(rt: HostRuntime) -> Result<(), Fail> {
             "101",
             "{\"editions\":3,\"formats\":101,\"ok\":\"mill\",\"starts\":1,\"text_bytes\":1035}\n",
         ),
+        (
+            "100000",
+            "{\"editions\":1001,\"formats\":100000,\"ok\":\"mill\",\"starts\":1,\"text_bytes\":1072560}\n",
+        ),
     ] {
         let input = pieces(alloc, REQUESTS, 7)?;
         let run = run_words(
@@ -167,6 +171,27 @@ fn a_large_run_is_summed_up(rt: HostRuntime) -> Result<(), Fail> {
         )?;
         assert_eq!(rt; run.status, Status::Ended);
         assert_eq!(rt; str::from_utf8(&run.written), Ok(line));
+    }
+    Ok(())
+}
+
+#[test]
+fn a_fault_ends_a_large_run(rt: HostRuntime) -> Result<(), Fail> {
+    let alloc = rt.alloc();
+    let line = "{\"editions\":2,\"formats\":1,\"ok\":\"mill\",\"starts\":1,\"text_bytes\":11}";
+    // The line is two writes, and then there is a flush.
+    for (failing, written, feeds) in [(1, "", 0), (2, line, 0), (3, line, 1)] {
+        let run = run_words(
+            alloc,
+            &["mill", "1"],
+            Vec::new(alloc),
+            Vec::new(alloc),
+            vec![in alloc; failing]?,
+        )?;
+        assert_eq!(rt; run.status, Status::WriteFault);
+        assert_eq!(rt; run.write_faults, 1);
+        assert!(rt; run.written.starts_with(written.as_bytes()));
+        assert_eq!(rt; run.written.len(), written.len() + feeds);
     }
     Ok(())
 }

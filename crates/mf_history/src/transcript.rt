@@ -1,11 +1,12 @@
 //! What callers sent and got.
+use mf_io::Bytes;
 use mf_text::{List, Text};
 
 /// A line and the reply to it, each without its line feed.
 #[derive(Debug, Drop)]
 pub struct Exchange {
     /// The bytes of the line.
-    pub request: List<u8>,
+    pub request: Bytes,
     /// The reply line.
     pub reply: Text,
 }

@@ -1,6 +1,7 @@
 //! A log and transcripts, taken from rows.
 use mf_edition::{Entry, Log};
 use mf_history::{Exchange, Exchanges, Transcript, Transcripts, Verdict};
+use mf_io::Bytes;
 use mf_text::{List, Text};
 use mf_wire::{Request, read_request};
 use std::alloc::{AllocError, Global};
@@ -11,7 +12,7 @@ pub struct Case {
     pub log: Log,
     transcripts: Transcripts,
     /// The line that waits for its reply, with its caller.
-    asked: Option<(u64, List<u8>)>,
+    asked: Option<(u64, Bytes)>,
 }
 
 impl Case {
@@ -70,8 +71,8 @@ impl Case {
         let Some((caller, request)) = numbered(row) else {
             return Ok(false);
         };
-        let bytes = Vec::from_slice(alloc, request.as_bytes())?;
-        self.asked = Some((caller, List::from(bytes)));
+        let request = Bytes::of(alloc, request.as_bytes())?;
+        self.asked = Some((caller, request));
         Ok(true)
     }
 

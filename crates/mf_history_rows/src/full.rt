@@ -1,8 +1,9 @@
 //! Logs that have all the entries, or all the bytes, that they may have.
 use mf_edition::{Catalogue, Change, Entry, Log};
 use mf_history::{Exchange, Exchanges, Transcript, Transcripts, Verdict, legal};
+use mf_io::Bytes;
 use mf_locale::{Tag, read_tag};
-use mf_text::{List, Text};
+use mf_text::Text;
 use std::alloc::{AllocError, Global};
 
 /// The publication that there is no room for.
@@ -56,10 +57,9 @@ fn english(alloc: Global) -> Result<Tag, AllocError> {
 
 /// The verdict on a log, and on a line of caller 0 with this reply.
 fn judge(alloc: Global, log: &Log, reply: &str) -> Result<Verdict, AllocError> {
-    let request = Vec::from_slice(alloc, REQUEST.as_bytes())?;
     let mut lines = Exchanges::new(alloc);
     lines.push(Exchange {
-        request: List::from(request),
+        request: Bytes::of(alloc, REQUEST.as_bytes())?,
         reply: Text::of(alloc, reply)?,
     })?;
     let mut transcripts = Transcripts::new(alloc);
