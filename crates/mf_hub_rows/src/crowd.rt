@@ -106,7 +106,65 @@ fn meet<R: Wait>(rt: &R, alloc: Global, hub: &Hub, pass: &mut Pass, other: Pass)
     is_new && is_published && has_learnt && pass.seen() >= seen
 }
 
+/// Publishes so many times.
+pub fn publish_many<R: Wait>(rt: &R, alloc: Global, hub: &Hub, pass: Pass, times: u32) -> Walked
+    requires { pass.hub ≡ hub.now }
+    ensures { CameFrom hub.now result }
+{
+    let mut pass = pass;
+    let mut misses: u64 = 0;
+    for _ in 0..times {
+        let is_published = match message(alloc, "own") {
+            Ok(change) => hub.publish(rt, &mut pass, change).is_ok(),
+            Err(_) => false,
+        };
+        if !is_published {
+            misses = misses.saturating_add(1);
+        }
+    }
+    Walked { pass, misses }
+}
+
 /// The same with each of these passes, in a thread of its own.
+pub fn publish_together<R: Threads + Wait + Sync>(
+    rt: &R,
+    alloc: Global,
+    hub: &Hub,
+    passes: Vec<Pass>,
+    times: u32,
+) -> Result<Vec<Walked>, AllocError>
+    requires { All (IsOf hub.now) passes.items }
+    ensures { IfOk result (λ walked. All (CameFrom hub.now) walked.items) }
+{
+    thread::map_vec(
+        rt,
+        passes,
+        &|pass: Pass| -> Walked
+            requires { pass.hub ≡ hub.now }
+            ensures { CameFrom hub.entry.now result }
+        { publish_many(rt, alloc, hub, pass, times) },
+    )
+}
+
+/// Makes passes until one is refused, but no more than so many: how many were made, and the refusal.
+pub fn make_passes<R: Wait>(
+    rt: &R,
+    hub: &Hub,
+    from: &mut Pass,
+    most: u64,
+) -> (u64, Option<PassError>)
+    requires { from.old.hub ≡ hub.now }
+    ensures { from.new.hub ≡ hub.now }
+{
+    for made in 0..most {
+        if let Err(refusal) = hub.new_pass(rt, from) {
+            return (made, Some(refusal));
+        }
+    }
+    (most, None)
+}
+
+/// Walks with each of these passes, in a thread of its own.
 pub fn walk_together<R: Threads + Wait + Sync>(
     rt: &R,
     alloc: Global,
@@ -165,6 +223,33 @@ pub fn share_notes(
         shared.push(pass)?;
     }
     Ok(shared)
+}
+
+/// The same so many times, in threads, and each time they then learn from one another what they saw: the passes, and how often
+/// something was wrong.
+pub fn walk_often<R: Threads + Wait + Sync>(
+    rt: &R,
+    alloc: Global,
+    hub: &Hub,
+    home: &mut Pass,
+    passes: Vec<Pass>,
+    times: u32,
+    rounds: u32,
+) -> Result<(Vec<Pass>, u64), AllocError>
+    requires home { home.old.hub ≡ hub.now }
+    requires passes { All (IsOf hub.now) passes.items }
+    ensures home { home.new.hub ≡ hub.now }
+    ensures passes { IfOk result (λ walked. All (IsOf hub.now) walked.0.items) }
+{
+    let mut passes = passes;
+    let mut misses: u64 = 0;
+    for _ in 0..times {
+        let walked = walk_together(rt, alloc, hub, passes, rounds)?;
+        let (walkers, missed) = gather(alloc, hub, walked)?;
+        misses = misses.saturating_add(missed);
+        passes = share_notes(alloc, hub, home, walkers)?;
+    }
+    Ok((passes, misses))
 }
 
 /// All of these leave into one.
