@@ -1,5 +1,5 @@
-//! The program `mf2d`: hands the words of the command line and the standard streams to the library of that name,
-//! and ends with its status.
+//! The program `mf2d`: hands the words of the command line and the standard streams to the library
+//! of that name, and ends with its status.
 #![tactic(auto)]
 
 use mf_io::{Status, StdSink, StdSource};

@@ -138,7 +138,8 @@ fn std_readers_and_writers_are_sources_and_sinks(rt: HostRuntime) -> Result<(), 
     Ok(())
 }
 
-// A device that signals interrupt at first, and that then has nothing to read, fails, and takes nothing.
+// A device that signals interrupt at first, and that then has nothing to read, fails, and takes
+// nothing.
 #[derive(Drop)]
 struct Flaky {
     calls: u64,

@@ -213,7 +213,8 @@ fn a_fault_ends_the_run(rt: HostRuntime) -> Result<(), Fail> {
     assert_eq!(rt; read.read_faults, 1);
     assert_eq!(rt; str::from_utf8(&read.written), Ok(ACCEPTED));
 
-    // A write or a flush fails. Each reply is two writes, and there is a flush when what was read is answered.
+    // A write or a flush fails. Each reply is two writes, and there is a flush when what was read
+    // is answered.
     let rows = [
         (1, ""),
         (2, "{\"edition\":1,\"ok\":\"publish\"}"),

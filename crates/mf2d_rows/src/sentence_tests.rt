@@ -1,4 +1,5 @@
-//! Sessions that are too long for a file: a full log, a catalogue at its bounds, a text at its bound.
+//! Sessions that are too long for a file: a full log, a catalogue at its bounds, a text at its
+//! bound.
 use mf_io::{MemorySink, MemorySource, Status};
 use mf_text::{Text, Texts};
 use mf2d::top;

@@ -6,7 +6,8 @@ use mf_numfmt::{Grouping, Layout, Sign, text};
 use mf_text::Text;
 use std::alloc::{AllocError, Global};
 
-/// The sum, modulo 2^64, over so many texts of the number, rounded to at most three fraction digits.
+/// The sum, modulo 2^64, over so many texts of the number, rounded to at most three fraction
+/// digits.
 pub fn text_sum(alloc: Global, number: Decimal, count: u64) -> Result<u64, AllocError> {
     let layout = Layout {
         decimal: Text::of(alloc, ".")?,

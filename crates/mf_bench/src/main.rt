@@ -1,5 +1,6 @@
-//! The program `mf_bench`: does one call of the decimals, of number texts, of the plural rules, of the built-in functions, of
-//! handlers or of the checks of a message many times, so that `bench/run` can time it.
+//! The program `mf_bench`: does one call of the decimals, of number texts, of the plural rules, of
+//! the built-in functions, of handlers or of the checks of a message many times, so that
+//! `bench/run` can time it.
 //!
 //! Its words are `read TEXT COUNT`, `round TEXT COUNT`, `exact TEXT COUNT`, `text TEXT COUNT`,
 //! `category TEXT COUNT RULES`, `number TEXT COUNT`, `options TEXT COUNT` (the same with four options), `shown TEXT COUNT`,

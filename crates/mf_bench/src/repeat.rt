@@ -1,6 +1,7 @@
 //! One call done many times.
 //!
-//! Each call's input hangs on the sum of the results before it, so that none can be left out or moved out of its loop.
+//! Each call's input hangs on the sum of the results before it, so that none can be left out or
+//! moved out of its loop.
 
 use mf_decimal::{Decimal, Digits, Shown, of_u64, read};
 use mf_plural::{Category, Rules, category};
@@ -42,7 +43,8 @@ pub fn exact_sum(alloc: Global, number: Decimal, count: u64) -> Result<u64, Allo
     Ok(sum)
 }
 
-/// The sum, modulo 2^64, over so many categories of the number, shown in at most three fraction digits.
+/// The sum, modulo 2^64, over so many categories of the number, shown in at most three fraction
+/// digits.
 pub fn category_sum(rules: &Rules, number: Decimal, count: u64) -> u64 {
     let digits = Digits::Fraction { min: 0, max: 3 };
     let (zero, shown) = (of_u64(0).round(digits), number.round(digits));

@@ -4,7 +4,8 @@ use mf_check::faults;
 use mf_parse::{ParseError, parse};
 use std::alloc::{AllocError, Global};
 
-/// The number of errors of a matcher with four selectors and this many variants, over so many checks.
+/// The number of errors of a matcher with four selectors and this many variants, over so many
+/// checks.
 pub fn variants_sum(alloc: Global, variants: u64, count: u64) -> Result<u64, AllocError> {
     let mut source = String::from_str(alloc, ".match $a $b $c $d")?;
     for number in 0..variants {
@@ -14,7 +15,8 @@ pub fn variants_sum(alloc: Global, variants: u64, count: u64) -> Result<u64, All
     checked_sum(alloc, source.as_str(), count)
 }
 
-/// The number of errors of a message with this many declarations of a hundred options each, over so many checks.
+/// The number of errors of a message with this many declarations of a hundred options each, over so
+/// many checks.
 pub fn declarations_sum(alloc: Global, declarations: u64, count: u64) -> Result<u64, AllocError> {
     let mut source = String::new(alloc);
     for number in 0..declarations {

@@ -12,8 +12,8 @@ use mf_text::{Argued, Arguments};
 use mf_tree::{Body, Message};
 use std::alloc::{AllocError, Global};
 
-/// The sum of the positions that are chosen where a source is a valid matcher and its variables `a`, `b`, `c`, `d` and `count`
-/// are 1, so many times.
+/// The sum of the positions that are chosen where a source is a valid matcher and its variables
+/// `a`, `b`, `c`, `d` and `count` are 1, so many times.
 pub fn chosen(alloc: Global, source: &str, count: u64) -> Result<u64, AllocError> {
     let record = root(alloc)?;
     let mut arguments = Arguments::new(alloc);
@@ -66,7 +66,8 @@ fn chosen_once(
     }
 }
 
-/// The source of a matcher of four numbers with so many variants and one more, of which the last is chosen where all are 1.
+/// The source of a matcher of four numbers with so many variants and one more, of which the last is
+/// chosen where all are 1.
 pub fn matcher(alloc: Global, variants: u64) -> Result<String, AllocError> {
     let mut source = String::new(alloc);
     for name in ["a", "b", "c", "d"] {

@@ -1,9 +1,12 @@
-//! The program `mf_bench_messages`: compiles and resolves a message many times, so that `bench/run` can time it.
+//! The program `mf_bench_messages`: compiles and resolves a message many times, so that `bench/run`
+//! can time it.
 //!
-//! Its words are `compile SOURCE COUNT`; `render SOURCE COUNT`, in English with a number and a name; `choose SOURCE COUNT`, where each variable is 1; `variants VARIANTS COUNT`, where a
-//! matcher of four numbers has so many variants and one more; and `chain USES COUNT`, where 256 declarations use each the one
-//! before, and the pattern so many times the last. It prints one line, a number that comes of all calls, so that none can be left out. After any other
-//! words it ends with status 1.
+//! Its words are `compile SOURCE COUNT`; `render SOURCE COUNT`, in English with a number and a
+//! name; `choose SOURCE COUNT`, where each variable is 1; `variants VARIANTS COUNT`, where a
+//! matcher of four numbers has so many variants and one more; and `chain USES COUNT`, where 256
+//! declarations use each the one before, and the pattern so many times the last. It prints one
+//! line, a number that comes of all calls, so that none can be left out. After any other words it
+//! ends with status 1.
 #![tactic(auto)]
 
 mod chain;

@@ -13,8 +13,8 @@ use std::alloc::{AllocError, Global};
 const ENGLISH: &str =
     r#"{"version":1,"dir":"ltr","decimal":".","group":",","minus":"-","plus":"+","primary":3,"secondary":3,"minGroup":1,"plural":"one: i = 1 and v = 0","ordinal":"one: n % 10 = 1 and n % 100 != 11; two: n % 10 = 2 and n % 100 != 12; few: n % 10 = 3 and n % 100 != 13"}"#;
 
-/// How many parts an English message has, formatted so many times: its arguments `n` and `count` are the squares of the numbers
-/// from 0, modulo 10,000, and `name` is `Ann`.
+/// How many parts an English message has, formatted so many times: its arguments `n` and `count`
+/// are the squares of the numbers from 0, modulo 10,000, and `name` is `Ann`.
 pub fn rendered(alloc: Global, source: &str, count: u64) -> Result<u64, AllocError> {
     let english = read_tag(alloc, "en").map_err(|_| AllocError)?;
     let publications = publications(alloc, &english)?;

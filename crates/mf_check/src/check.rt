@@ -1,5 +1,5 @@
 ghost use Rattle.std.specs.Prelude.{◌≡◌, ◌++◌, IfOk, OnOk};
-ghost use Rattle.mf_tree.specs.Faults.{faults as faults_of, selection_faults, duplicate_option_names, body_duplicates};
+ghost use Rattle.mf_tree.specs.Faults.{faults, selection_faults, body_duplicates};
 
 use crate::declarations::add_duplicate_declarations;
 use crate::fallback::add_missing_fallback;
@@ -10,12 +10,13 @@ use mf_text::List;
 use mf_tree::{Body, Declaration, Faults, Message};
 use std::alloc::{AllocError, Global};
 
-/// The errors that make a message invalid: by classes in their order, and within a class in the order of the source.
+/// The errors that make a message invalid: by classes in their order, and within a class in the
+/// order of the source.
 ///
-/// Names, identifiers and literal keys are compared by their Normalization Form C. The cost is near linear in the size of
-/// the message.
+/// Names, identifiers and literal keys are compared by their Normalization Form C. The cost is near
+/// linear in the size of the message.
 pub fn faults(alloc: Global, message: &Message) -> Result<Faults, AllocError>
-    ensures { IfOk result (λ found. found ≡ faults_of message.now) }
+    ensures { IfOk result (λ found. found ≡ faults message.now) }
 {
     let declarations = message.declarations.as_slice();
     let mut found = List::new(alloc);

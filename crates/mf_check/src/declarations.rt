@@ -2,7 +2,7 @@
 ghost use Rattle.std.specs.Prelude.{◌≡◌, ◌++◌, ◌||◌, Bool, OnOk};
 ghost use Rattle.mf_tree.specs.declared.name.Name.{Name as NameNode};
 ghost use Rattle.mf_tree.specs.Equality.{is_same_name};
-ghost use Rattle.mf_tree.specs.Faults.{duplicate_declarations, is_in_itself as appears_in_itself, is_in_expression as appears_in_expression, is_in_operand as appears_in_operand, is_in_options as appears_in_options, is_in_value as appears_in_value, is_in_declaration as appears_in_declaration, expression_of as bound_expression, name_of as bound_name, call_options};
+ghost use Rattle.mf_tree.specs.Faults.{duplicate_declarations, is_in_itself, is_in_operand, is_in_options, is_in_value, is_in_declaration, expression_of, name_of, call_options};
 ghost use Rattle.mf_check.specs.Seen.{AreNamesSeen, AreNamesSeenToo};
 
 use crate::shown::show_variable;
@@ -13,7 +13,8 @@ use mf_tree::{
 use std::alloc::{AllocError, Global};
 use std::collections::BTreeSet;
 
-/// Adds an error for each declaration that binds a variable which appears in an earlier one, or in its own expression.
+/// Adds an error for each declaration that binds a variable which appears in an earlier one, or in
+/// its own expression.
 pub fn add_duplicate_declarations(
     alloc: Global,
     found: &mut Faults,
@@ -36,14 +37,15 @@ pub fn add_duplicate_declarations(
 
 /// Whether the variable that a declaration binds has been noted, or appears in its own expression.
 fn is_duplicate<'a>(seen: &BTreeSet<&'a Text>, declaration: &'a Declaration) -> bool
-    ensures { (test : NameNode → Bool) → AreNamesSeen test seen.now → result ≡ (test (bound_name declaration.now) || appears_in_itself declaration.now) }
+    ensures { (test : NameNode → Bool) → AreNamesSeen test seen.now → result ≡
+        (test (name_of declaration.now) || is_in_itself declaration.now) }
 {
     is_seen(seen, name_of(declaration)) || is_in_itself(declaration)
 }
 
 /// The variable that a declaration binds.
 pub fn name_of(declaration: &Declaration) -> &Name
-    ensures { result.now ≡ bound_name declaration.now }
+    ensures { result.now ≡ name_of declaration.now }
 {
     match declaration {
         Declaration::Input { name, .. } => name,
@@ -53,7 +55,7 @@ pub fn name_of(declaration: &Declaration) -> &Name
 
 /// What a declaration binds its variable to.
 pub fn expression_of(declaration: &Declaration) -> &Expression
-    ensures { result.now ≡ bound_expression declaration.now }
+    ensures { result.now ≡ expression_of declaration.now }
 {
     match declaration {
         Declaration::Input { expression, .. } => expression,
@@ -61,10 +63,10 @@ pub fn expression_of(declaration: &Declaration) -> &Expression
     }
 }
 
-/// Whether the variable that a declaration binds appears in its own expression; the operand of an `.input` doesn't
-/// count.
+/// Whether the variable that a declaration binds appears in its own expression; the operand of an
+/// `.input` doesn't count.
 fn is_in_itself(declaration: &Declaration) -> bool
-    ensures { result ≡ appears_in_itself declaration.now }
+    ensures { result ≡ is_in_itself declaration.now }
 {
     match declaration {
         Declaration::Input { name, expression } => is_in_call(name, &expression.function),
@@ -75,7 +77,7 @@ fn is_in_itself(declaration: &Declaration) -> bool
 }
 
 fn is_in_operand(name: &Name, operand: &Operand) -> bool
-    ensures { result ≡ appears_in_operand name.now operand.now }
+    ensures { result ≡ is_in_operand name.now operand.now }
 {
     match operand {
         Operand::Absent => false,
@@ -85,7 +87,7 @@ fn is_in_operand(name: &Name, operand: &Operand) -> bool
 }
 
 fn is_in_call(name: &Name, call: &Option<Call>) -> bool
-    ensures { result ≡ appears_in_options name.now (call_options call.now) }
+    ensures { result ≡ is_in_options name.now (call_options call.now) }
 {
     match call {
         None => false,
@@ -98,7 +100,7 @@ fn is_in_call(name: &Name, call: &Option<Call>) -> bool
 }
 
 fn is_in_value(name: &Name, value: &OptionValue) -> bool
-    ensures { result ≡ appears_in_value name.now value.now }
+    ensures { result ≡ is_in_value name.now value.now }
 {
     match value {
         OptionValue::Literal(_) => false,
@@ -116,7 +118,8 @@ fn is_seen<'a>(seen: &BTreeSet<&'a Text>, name: &'a Name) -> bool
 
 /// Notes a variable.
 fn see_name<'a>(seen: &mut BTreeSet<&'a Text>, name: &'a Name) -> Result<(), AllocError>
-    ensures { OnOk result (AreNamesSeenToo (λ other. is_same_name other name.now) seen.old seen.new) }
+    ensures { OnOk result (AreNamesSeenToo
+        (λ other. is_same_name other name.now) seen.old seen.new) }
 {
     seen.insert(&name.value)?;
     Ok(())
@@ -127,7 +130,8 @@ fn see_declaration<'a>(
     seen: &mut BTreeSet<&'a Text>,
     declaration: &'a Declaration,
 ) -> Result<(), AllocError>
-    ensures { OnOk result (AreNamesSeenToo (λ name. appears_in_declaration name declaration.now) seen.old seen.new) }
+    ensures { OnOk result (AreNamesSeenToo
+        (λ name. is_in_declaration name declaration.now) seen.old seen.new) }
 {
     let expression = expression_of(declaration);
     see_name(seen, name_of(declaration))?;
@@ -136,7 +140,8 @@ fn see_declaration<'a>(
 }
 
 fn see_operand<'a>(seen: &mut BTreeSet<&'a Text>, operand: &'a Operand) -> Result<(), AllocError>
-    ensures { OnOk result (AreNamesSeenToo (λ name. appears_in_operand name operand.now) seen.old seen.new) }
+    ensures { OnOk result (AreNamesSeenToo
+        (λ name. is_in_operand name operand.now) seen.old seen.new) }
 {
     match operand {
         Operand::Absent => Ok(()),
@@ -146,7 +151,8 @@ fn see_operand<'a>(seen: &mut BTreeSet<&'a Text>, operand: &'a Operand) -> Resul
 }
 
 fn see_call<'a>(seen: &mut BTreeSet<&'a Text>, call: &'a Option<Call>) -> Result<(), AllocError>
-    ensures { OnOk result (AreNamesSeenToo (λ name. appears_in_options name (call_options call.now)) seen.old seen.new) }
+    ensures { OnOk result (AreNamesSeenToo
+        (λ name. is_in_options name (call_options call.now)) seen.old seen.new) }
 {
     match call {
         None => Ok(()),
@@ -158,7 +164,8 @@ fn see_options<'a>(
     seen: &mut BTreeSet<&'a Text>,
     options: &'a [OptionNode],
 ) -> Result<(), AllocError>
-    ensures { OnOk result (AreNamesSeenToo (λ name. appears_in_options name options.now) seen.old seen.new) }
+    ensures { OnOk result (AreNamesSeenToo
+        (λ name. is_in_options name options.now) seen.old seen.new) }
 {
     for option in options {
         see_value(seen, &option.value)?;
@@ -167,7 +174,7 @@ fn see_options<'a>(
 }
 
 fn see_value<'a>(seen: &mut BTreeSet<&'a Text>, value: &'a OptionValue) -> Result<(), AllocError>
-    ensures { OnOk result (AreNamesSeenToo (λ name. appears_in_value name value.now) seen.old seen.new) }
+    ensures { OnOk result (AreNamesSeenToo (λ name. is_in_value name value.now) seen.old seen.new) }
 {
     match value {
         OptionValue::Literal(_) => Ok(()),

@@ -1,4 +1,5 @@
-//! The checks of a message: what makes it invalid. Source: Unicode TS 35, Part 9, "Data Model Errors".
+//! The checks of a message: what makes it invalid. Source: Unicode TS 35, Part 9, "Data Model
+//! Errors".
 #![tactic(auto)]
 
 mod check;

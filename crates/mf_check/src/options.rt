@@ -12,7 +12,8 @@ use mf_tree::{
 use std::alloc::{AllocError, Global};
 use std::collections::BTreeSet;
 
-/// Adds an error for each option whose identifier equals an earlier one of the same function or markup.
+/// Adds an error for each option whose identifier equals an earlier one of the same function or
+/// markup.
 pub fn add_duplicate_option_names(
     alloc: Global,
     found: &mut Faults,
@@ -32,7 +33,8 @@ fn add_in_declarations(
     found: &mut Faults,
     declarations: &[Declaration],
 ) -> Result<(), AllocError>
-    ensures { OnOk result (found.new ≡ found.old ++ flat_map duplicate_options (map declaration_options declarations.now)) }
+    ensures { OnOk result (found.new ≡ found.old ++ flat_map duplicate_options
+        (map declaration_options declarations.now)) }
 {
     for declaration in declarations {
         let (Declaration::Input { expression, .. } | Declaration::Local { expression, .. }) =
@@ -47,7 +49,8 @@ fn add_in_variants(
     found: &mut Faults,
     variants: &[Variant],
 ) -> Result<(), AllocError>
-    ensures { OnOk result (found.new ≡ found.old ++ flat_map duplicate_options (flat_map variant_options variants.now)) }
+    ensures { OnOk result (found.new ≡ found.old ++ flat_map duplicate_options
+        (flat_map variant_options variants.now)) }
 {
     for variant in variants {
         add_in_pattern(alloc, found, variant.pattern.as_slice())?;
@@ -56,7 +59,8 @@ fn add_in_variants(
 }
 
 fn add_in_pattern(alloc: Global, found: &mut Faults, pieces: &[Piece]) -> Result<(), AllocError>
-    ensures { OnOk result (found.new ≡ found.old ++ flat_map duplicate_options (pattern_options pieces.now)) }
+    ensures { OnOk result (found.new ≡ found.old ++ flat_map duplicate_options
+        (pattern_options pieces.now)) }
 {
     for piece in pieces {
         add_in_piece(alloc, found, piece)?;

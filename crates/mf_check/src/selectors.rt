@@ -1,7 +1,7 @@
 //! The annotation of selectors.
 ghost use Rattle.std.specs.Prelude.{◌≡◌, ◌++◌, Bool, Some, IfOk, OnOk};
 ghost use Rattle.mf_tree.specs.declared.name.Name.{Name as NameNode};
-ghost use Rattle.mf_tree.specs.Faults.{is_annotated as is_annotated_by, first_declaration, is_annotating, missing_selector_annotations};
+ghost use Rattle.mf_tree.specs.Faults.{is_annotated, first_declaration, is_annotating, missing_selector_annotations};
 ghost use Rattle.mf_check.specs.Annotations.{annotates, AreAlike, AreAnswers, HasFirst};
 
 use crate::declarations::{expression_of, name_of};
@@ -18,7 +18,8 @@ pub fn add_missing_annotations<'a>(
     declarations: &'a [Declaration],
     selectors: &'a [Name],
 ) -> Result<(), AllocError>
-    ensures { OnOk result (found.new ≡ found.old ++ missing_selector_annotations declarations.now selectors.now) }
+    ensures { OnOk result (found.new ≡ found.old ++ missing_selector_annotations declarations.now
+        selectors.now) }
 {
     let first = first_declarations(alloc, declarations)?;
     let mut answers = BTreeMap::new(alloc);
@@ -50,7 +51,8 @@ fn first_declarations<'a>(
     Ok(first)
 }
 
-/// Whether a variable is annotated. The answer is kept for each variable on the way to it, so that none is passed again.
+/// Whether a variable is annotated. The answer is kept for each variable on the way to it, so that
+/// none is passed again.
 fn is_annotated<'a>(
     alloc: Global,
     declarations: &'a [Declaration],
@@ -60,7 +62,7 @@ fn is_annotated<'a>(
 ) -> Result<bool, AllocError>
     requires first { HasFirst declarations.now first.now }
     requires answers { AreAnswers declarations.now answers.now }
-    ensures told { IfOk result (λ annotated. annotated ≡ is_annotated_by declarations.now name.now) }
+    ensures told { IfOk result (λ annotated. annotated ≡ is_annotated declarations.now name.now) }
     ensures answers { OnOk result (AreAnswers declarations.now answers.new) }
 {
     let mut path = Vec::new(alloc);
@@ -71,9 +73,9 @@ fn is_annotated<'a>(
     Ok(annotated)
 }
 
-/// Whether a variable is annotated: goes from operand to operand until a declaration tells, or an answer that is kept, or
-/// the path meets itself, which annotates nothing. Each variable that is passed has the same answer. As many steps as
-/// there are declarations are enough.
+/// Whether a variable is annotated: goes from operand to operand until a declaration tells, or an
+/// answer that is kept, or the path meets itself, which annotates nothing. Each variable that is
+/// passed has the same answer. As many steps as there are declarations are enough.
 fn walk<'a>(
     alloc: Global,
     declarations: &'a [Declaration],
@@ -85,7 +87,7 @@ fn walk<'a>(
     requires first { HasFirst declarations.now first.now }
     requires answers { AreAnswers declarations.now answers.now }
     requires alike { AreAlike declarations.now name.now path.now.items }
-    ensures told { IfOk result (λ annotated. annotated ≡ is_annotated_by declarations.now name.now) }
+    ensures told { IfOk result (λ annotated. annotated ≡ is_annotated declarations.now name.now) }
     ensures alike { OnOk result (AreAlike declarations.now name.now path.new.items) }
 {
     let mut on_path = BTreeSet::new(alloc);
@@ -116,7 +118,8 @@ fn annotation_of<'a>(
     name: &'a Name,
 ) -> Annotation<'a>
     requires { HasFirst declarations.now first.now }
-    ensures { (known : NameNode → Bool) → annotates known result ≡ is_annotating known (first_declaration declarations.now name.now) }
+    ensures { (known : NameNode → Bool) → annotates known result ≡ is_annotating known
+        (first_declaration declarations.now name.now) }
 {
     let value = &name.value;
     match first.get(&value) {
@@ -134,7 +137,8 @@ enum Annotation<'a> {
 }
 
 fn annotating(declaration: &Declaration) -> Annotation<'_>
-    ensures { (known : NameNode → Bool) → annotates known result ≡ is_annotating known (Some declaration.now) }
+    ensures { (known : NameNode → Bool) → annotates known result ≡ is_annotating known
+        (Some declaration.now) }
 {
     let expression = expression_of(declaration);
     if expression.function.is_some() {

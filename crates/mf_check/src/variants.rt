@@ -1,7 +1,7 @@
 //! The keys of variants.
 ghost use Rattle.std.specs.Prelude.{◌≡◌, ◌++◌, map, IfOk, OnOk};
 ghost use Rattle.mf_tree.specs.Faults.{variant_key_mismatches, duplicate_variants};
-ghost use Rattle.mf_check.specs.KeyValues.{key_value as value_of_key};
+ghost use Rattle.mf_check.specs.KeyValues.{key_value};
 
 use crate::shown::show_number;
 use mf_text::{Text, nfc};
@@ -16,7 +16,8 @@ pub fn add_key_mismatches(
     selectors: &[Name],
     variants: &[Variant],
 ) -> Result<(), AllocError>
-    ensures { OnOk result (found.new ≡ found.old ++ variant_key_mismatches selectors.now variants.now) }
+    ensures { OnOk result (found.new ≡ found.old ++ variant_key_mismatches selectors.now
+        variants.now) }
 {
     for (at, variant) in variants.iter().enumerate() {
         if variant.keys.len() != selectors.len() {
@@ -53,7 +54,7 @@ pub fn add_duplicate_variants(
 
 /// What keys are compared by: the Normalization Form C of a literal, and nothing for `*`.
 fn key_values(alloc: Global, keys: &[Key]) -> Result<Vec<Option<Text>>, AllocError>
-    ensures { IfOk result (λ values. values.items ≡ map value_of_key keys.now) }
+    ensures { IfOk result (λ values. values.items ≡ map key_value keys.now) }
 {
     let mut values = Vec::with_capacity(alloc, keys.len())?;
     for key in keys {
@@ -63,7 +64,7 @@ fn key_values(alloc: Global, keys: &[Key]) -> Result<Vec<Option<Text>>, AllocErr
 }
 
 fn key_value(alloc: Global, key: &Key) -> Result<Option<Text>, AllocError>
-    ensures { IfOk result (λ value. value ≡ value_of_key key.now) }
+    ensures { IfOk result (λ value. value ≡ key_value key.now) }
 {
     match key {
         Key::Star => Ok(None),

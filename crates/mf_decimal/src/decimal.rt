@@ -4,8 +4,8 @@ ghost use Rattle.std.specs.Prelude.{◌<◌, ◌≤◌, ◌%◌, ◌^◌, IsTrue
 
 /// A decimal number: `coefficient` over ten to the `scale`, below zero where it is `negative`.
 ///
-/// The coefficient has at most 36 digits, the scale is at most 36, the fraction has no trailing zeros, and zero has
-/// no sign. So equal numbers are equal values.
+/// The coefficient has at most 36 digits, the scale is at most 36, the fraction has no trailing
+/// zeros, and zero has no sign. So equal numbers are equal values.
 #[derive(Clone, Copy, PartialEq, Eq, Debug)]
 pub struct Decimal {
     pub negative: bool,

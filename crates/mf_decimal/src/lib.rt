@@ -1,7 +1,8 @@
-//! Decimal numbers: read from a text, rounded to the digits that are shown, cut to a whole number, written exactly.
+//! Decimal numbers: read from a text, rounded to the digits that are shown, cut to a whole number,
+//! written exactly.
 //!
-//! A [`Decimal`] is what a message computes with, a [`Shown`] is what it shows: a number with its fraction digits,
-//! the trailing zeros among them. No floating point is read or written.
+//! A [`Decimal`] is what a message computes with, a [`Shown`] is what it shows: a number with its
+//! fraction digits, the trailing zeros among them. No floating point is read or written.
 #![tactic(auto)]
 
 mod decimal;

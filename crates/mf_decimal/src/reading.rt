@@ -25,8 +25,8 @@ pub enum NumberError {
     TooWide,
 }
 
-/// The decimal whose number literal the text is (Unicode TS 35, Part 9, the production number-literal). It takes no
-/// memory, and no step more than the text has digits.
+/// The decimal whose number literal the text is (Unicode TS 35, Part 9, the production
+/// number-literal). It takes no memory, and no step more than the text has digits.
 pub fn read(text: &str) -> Result<Decimal, NumberError>
     ensures value { IfOk result (λ x. DecimalOf (chars text.now) x) }
     ensures not_a_number { (result ≡ Err NumberError.NotANumber) ↔ (¬ IsNumber (chars text.now)) }

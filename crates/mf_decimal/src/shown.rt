@@ -2,9 +2,11 @@
 
 ghost use Rattle.std.specs.Prelude.{◌<◌, ◌≤◌, ◌^◌, ◌+◌, IsTrue};
 
-/// A number as it is shown: whole digits and `fraction_len` fraction digits, trailing zeros among them.
+/// A number as it is shown: whole digits and `fraction_len` fraction digits, trailing zeros among
+/// them.
 ///
-/// The fraction is written in `fraction_len` digits, of which there are at most 56, and a shown zero has no sign.
+/// The fraction is written in `fraction_len` digits, of which there are at most 56, and a shown
+/// zero has no sign.
 #[derive(Clone, Copy, PartialEq, Eq, Debug)]
 pub struct Shown {
     pub negative: bool,
@@ -19,7 +21,8 @@ pub struct Shown {
 /// How many digits are shown.
 ///
 /// - `Fraction`: from `min` to `max` fraction digits, each from 0 to 20.
-/// - `Significant`: at most `max` significant digits, and so many of the trailing fraction zeros that there are `min`;
+/// - `Significant`: at most `max` significant digits, and so many of the trailing fraction zeros
+///   that there are `min`;
 ///   each from 1 to 21.
 #[derive(Clone, Copy, PartialEq, Eq, Debug)]
 pub enum Digits {

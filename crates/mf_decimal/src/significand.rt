@@ -24,7 +24,8 @@ impl Significand {
         zeros: 0,
     };
 
-    /// The number with one more digit, or none where the last digit would be the 37th or a later one.
+    /// The number with one more digit, or none where the last digit would be the 37th or a later
+    /// one.
     fn with_digit(self, digit: u8) -> Option<Significand>
         requires digit { digit < 10 }
         requires room { self.zeros + 1 < 2 ^ 64 }
@@ -46,8 +47,8 @@ impl Significand {
         Some(Significand { digits, zeros: 0 })
     }
 
-    /// The number with these digits after its own, or none where more than 36 digits stand before the last one that is
-    /// no zero.
+    /// The number with these digits after its own, or none where more than 36 digits stand before
+    /// the last one that is no zero.
     pub fn with_digits(self, bytes: &[u8]) -> Option<Significand>
         requires digits { AllDigits 10 bytes.now }
         requires room { self.zeros + length bytes.now < 2 ^ 64 }

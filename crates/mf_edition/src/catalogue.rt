@@ -11,8 +11,8 @@ use std::alloc::{AllocError, Global};
 use std::marker::Model;
 use std::sync::Arc;
 
-/// The messages of a publication, which are of one tag and in the byte order of their ids. The log and the editions share
-/// each of them.
+/// The messages of a publication, which are of one tag and in the byte order of their ids. The log
+/// and the editions share each of them.
 #[derive(Debug, Drop)]
 pub struct Catalogue {
     tag: Tag,
@@ -94,8 +94,8 @@ impl Eq for Catalogue {
     ghost laws = { catalogue_eq_equiv };
 }
 
-/// Puts an item in: it takes the place of that of its id, or goes before that of the next higher id. After an error all is
-/// as it was.
+/// Puts an item in: it takes the place of that of its id, or goes before that of the next higher
+/// id. After an error all is as it was.
 fn insert_item(items: &mut Vec<Arc<Item>>, item: Arc<Item>) -> Result<(), AllocError>
     requires { IsCatalogue (arc_value item).tag (item_values items.old.items) }
     ensures ok { OnOk result (item_values items.new.items

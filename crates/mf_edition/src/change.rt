@@ -13,8 +13,8 @@ pub(crate) const OVERHEAD: u64 = 64;
 pub enum Change {
     /// The messages of one tag.
     Catalogue(Catalogue),
-    /// The record of one tag. Its size is in bytes: 64, and those of the tag and of the texts that the
-    /// record was read from. A size below 64 counts as 64.
+    /// The record of one tag. Its size is in bytes: 64, and those of the tag and of the texts that
+    /// the record was read from. A size below 64 counts as 64.
     Locale {
         tag: Tag,
         place: SharedRecord,

@@ -18,8 +18,8 @@ use std::marker::Model;
 use std::sync::Arc;
 
 /// The messages, the locale records and the handlers after so many changes, seen as the number of
-/// changes, the list of the messages, the list of the records in the order of their tags, and the list of
-/// the handlers in the order of their names.
+/// changes, the list of the messages, the list of the records in the order of their tags, and the
+/// list of the handlers in the order of their names.
 #[derive(Debug, Drop)]
 pub struct Edition {
     number: u64,
@@ -80,8 +80,9 @@ impl Edition {
         })
     }
 
-    /// The edition after one more change. It shares each message, each record and each handler that the
-    /// change leaves as it is.
+    /// The edition after one more change. It shares each message, each record and each handler that
+    /// the change leaves as it is.
+    /// See DECISIONS 82.
     pub fn next(&self, change: &Change) -> Result<Edition, AllocError>
         requires { HasRoom self.now change.now }
         ensures { IfOk result (λ edition. edition ≡ next_edition self.now change.now) }
@@ -91,7 +92,9 @@ impl Edition {
         Ok(edition)
     }
 
-    /// Becomes the edition after one more change. What it needs is taken before anything is changed.
+    /// Becomes the edition after one more change. What it needs is taken before anything is
+    /// changed.
+    /// See DECISIONS 82.
     pub fn advance(&mut self, change: &Change) -> Result<(), AllocError>
         requires { HasRoom self.old change.now }
         ensures ok { OnOk result (self.new ≡ next_edition self.old change.now) }
@@ -170,8 +173,9 @@ impl Edition {
         )
     }
 
-    /// The message of an id under the first tag of a chain that has one: that tag, and the message's
-    /// index.
+    /// The message of an id under the first tag of a chain that has one: that tag, and the
+    /// message's index.
+    /// See DECISIONS 87.
     pub fn find_along(&self, chain: Tags, id: &Text) -> Option<Found>
         ensures found { result ≡ found_along self.now.items id.now chain }
         ensures inside { IfSome result (λ found. found.index < length self.now.items) }
@@ -184,8 +188,8 @@ impl Edition {
         None
     }
 
-    /// The record that speaks for a tag: that of the first tag of its chain that has one, else the root
-    /// record.
+    /// The record that speaks for a tag: that of the first tag of its chain that has one, else the
+    /// root record.
     pub fn place_for(&self, tag: &Tag) -> &LocaleRecord
         ensures { result.now ≡ place_for self.now.records tag.now }
     {

@@ -37,6 +37,7 @@ impl Eq for Handler {
 }
 
 /// A handler that several owners may share, seen as the handler.
+/// See DECISIONS 84.
 #[derive(Debug, Drop)]
 pub struct SharedHandler {
     handler: Arc<Handler>,
@@ -116,7 +117,8 @@ fn same_namespaces(namespace: &Option<Name>, other: &Option<Name>) -> bool
     }
 }
 
-/// How two names of handlers compare: by their namespaces, none standing first, then by what follows.
+/// How two names of handlers compare: by their namespaces, none standing first, then by what
+/// follows.
 pub fn compare_names(name: &Identifier, other: &Identifier) -> Ordering
     ensures { result ≡ handler_cmp name.now other.now }
 {

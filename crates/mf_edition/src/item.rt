@@ -7,7 +7,9 @@ use std::alloc::{AllocError, Global};
 use std::cmp::Ordering;
 use std::marker::Model;
 
-/// A message of an edition: its tag, its id and its source, which stand in one text, one after the other.
+/// A message of an edition: its tag, its id and its source, which stand in one text, one after the
+/// other.
+/// See DECISIONS 78.
 #[derive(Debug, Drop)]
 pub struct Item {
     text: String,
@@ -27,7 +29,8 @@ impl Model for Item {
 }
 
 impl Item {
-    /// The message of a tag and an id with this source. A tag and an id of 4 GiB or more find no memory.
+    /// The message of a tag and an id with this source. A tag and an id of 4 GiB or more find no
+    /// memory.
     pub fn new(alloc: Global, tag: &Tag, id: &str, source: &str) -> Result<Item, AllocError>
         ensures { IfOk result (λ item. item
             ≡ record { tag = tag.now; id = chars id.now; source = chars source.now }) }

@@ -55,7 +55,8 @@ pub fn longer_logs_use_more()
     ensures { LongerLogsUseMore }
 {}
 
-/// Two messages, catalogues, handlers, changes or entries are equal exactly where they are the same.
+/// Two messages, catalogues, handlers, changes or entries are equal exactly where they are the
+/// same.
 pub fn equality_is_exact()
     ensures items { IsExact item.ghosts.eq }
     ensures catalogues { IsExact catalogue.ghosts.eq }

@@ -13,7 +13,8 @@ const MOST_ENTRIES: u64 = 65_536;
 /// The most bytes that the changes of a log may count for.
 const MOST_BYTES: u64 = 268_435_456;
 
-/// The accepted changes in the order in which they were accepted, seen as the list of their entries.
+/// The accepted changes in the order in which they were accepted, seen as the list of their
+/// entries.
 ///
 /// There are at most 65,536 of them, and they count for at most 268,435,456 bytes.
 #[derive(Debug, Drop)]
@@ -61,8 +62,9 @@ impl Log {
         self.used
     }
 
-    /// The entry at an index, counted from 0, if there is one: entry k of the log, counted from 1, stands at
-    /// k - 1.
+    /// The entry at an index, counted from 0, if there is one: entry k of the log, counted from 1,
+    /// stands at k - 1.
+    /// See DECISIONS 81.
     pub fn get(&self, k: u64) -> Option<&Entry>
         ensures { option_copied result ≡ slice_get self.now k }
     {
@@ -70,6 +72,7 @@ impl Log {
     }
 
     /// Why a change isn't accepted, if it isn't. Where it is, the newest edition has room for it.
+    /// See DECISIONS 79.
     pub fn refusal(&self, change: &Change) -> Option<Refusal>
         ensures refusal { result ≡ refusal_of self.now change.now }
         ensures room { result ≡ None → HasRoom (newest_edition self.now) change.now }
@@ -94,8 +97,9 @@ impl Log {
         Ok(())
     }
 
-    /// Puts an entry at the end, and its change into the newest edition. After an error both are as they
-    /// were.
+    /// Puts an entry at the end, and its change into the newest edition. After an error both are as
+    /// they were.
+    /// See DECISIONS 80.
     pub(crate) fn publish(&mut self, newest: &mut Edition, entry: Entry) -> Result<(), PublishError>
         requires { newest.old ≡ newest_edition self.old }
         ensures log { OnOk result (self.new ≡ self.old ++ entry ∷ []) }

@@ -22,7 +22,8 @@ fn search(items: &[Arc<Item>], order: &[u32], tag: &str, id: &str) -> Result<usi
     order.binary_search_by(|index| compare_at(items, *index, tag, id))
 }
 
-/// How the message at an index compares with a tag and an id; past the last index it counts as less.
+/// How the message at an index compares with a tag and an id; past the last index it counts as
+/// less.
 fn compare_at(items: &[Arc<Item>], index: u32, tag: &str, id: &str) -> Ordering
     ensures { result ≡ index_cmp (names_in items.now) (chars tag.now, chars id.now) index }
 {

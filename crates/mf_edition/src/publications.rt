@@ -7,6 +7,7 @@ use std::alloc::{AllocError, Global};
 use std::marker::Model;
 
 /// The accepted publications: a log with its newest edition, seen as the list of its entries.
+/// See DECISIONS 79.
 #[derive(Debug, Drop)]
 pub struct Publications {
     log: Log,
@@ -51,8 +52,8 @@ impl Publications {
         &self.newest
     }
 
-    /// Makes a publication: its entry is the next one of the log, and its change goes into the newest
-    /// edition. After an error both are as they were.
+    /// Makes a publication: its entry is the next one of the log, and its change goes into the
+    /// newest edition. After an error both are as they were.
     pub fn publish(&mut self, entry: Entry) -> Result<(), PublishError>
         ensures ok { OnOk result (self.new ≡ self.old ++ entry ∷ []) }
         ensures accepted { OnOk result (refusal_of self.old entry.change ≡ None) }

@@ -45,8 +45,8 @@ impl Records {
         }
     }
 
-    /// Puts the record of a tag in, in place of the one that the tag has. After an error all is as it
-    /// was.
+    /// Puts the record of a tag in, in place of the one that the tag has. After an error all is as
+    /// it was.
     pub fn put_record(&mut self, tag: &Tag, shared: &SharedRecord) -> Result<(), AllocError>
         ensures ok { OnOk result
             (self.new ≡ put_record self.old (record { tag = tag.now; shared = shared.now })) }
@@ -68,8 +68,8 @@ impl Records {
         }
     }
 
-    /// The record of the first that has one: the tag that this text is, the tag with its last subtag
-    /// dropped, and so on.
+    /// The record of the first that has one: the tag that this text is, the tag with its last
+    /// subtag dropped, and so on.
     fn first_record(&self, tag: &str) -> Option<&LocaleRecord>
         ensures { option_copied result ≡ first_record self.now (truncations tag.now) }
     {
@@ -83,8 +83,8 @@ impl Records {
         self.record_of(rest)
     }
 
-    /// The record that speaks for a tag: that of the first tag of its chain that has one, else the root
-    /// record.
+    /// The record that speaks for a tag: that of the first tag of its chain that has one, else the
+    /// root record.
     pub fn place_for<'a>(&'a self, root: &'a LocaleRecord, tag: &Tag) -> &'a LocaleRecord
         requires { root.now ≡ root_record }
         ensures { result.now ≡ place_for self.now tag.now }

@@ -1,8 +1,8 @@
 //! The bytes that the publication of a handler counts for.
-ghost use Rattle.std.specs.Prelude.{◌≡◌, ◌+◌, length};
+ghost use Rattle.std.specs.Prelude.{◌≡◌, ◌+◌};
 ghost use Rattle.mf_tree.specs.Faults.{identifier_text};
 ghost use Rattle.mf_edition.specs.Sizes as sizes;
-ghost use Rattle.mf_edition.specs.Sizes.{byte_count, default_size, def_size, pairs_size, shown};
+ghost use Rattle.mf_edition.specs.Sizes.{byte_count, pairs_size, shown};
 
 use crate::Handler;
 use crate::change::OVERHEAD;

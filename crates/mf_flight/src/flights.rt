@@ -12,8 +12,8 @@ use crate::ticket::{Spent, Ticket};
 use std::alloc::{AllocError, Global};
 use std::collections::BTreeMap;
 
-/// The compilations of the messages of all editions: an entry for each edition and index, which is idle, or
-/// claimed by whoever holds its ticket, or ready with what was made of it.
+/// The compilations of the messages of all editions: an entry for each edition and index, which is
+/// idle, or claimed by whoever holds its ticket, or ready with what was made of it.
 #[derive(Debug, Drop)]
 pub struct Flights<P> {
     alloc: Global,
@@ -44,8 +44,10 @@ impl<P: Drop> Flights<P> {
 
     /// Claims an entry that is idle.
     pub fn ask(&mut self, edition: u64, index: u32) -> Result<Asked, AllocError>
-        ensures answer { IfOk result (λ a. a ≡ answer_to (slot_of self.old edition index).state edition index) }
-        ensures ok { OnOk result (Puts self.old self.new edition index (asked (slot_of self.old edition index))) }
+        ensures answer { IfOk result (λ a. a ≡ answer_to
+            (slot_of self.old edition index).state edition index) }
+        ensures ok { OnOk result (Puts self.old self.new edition index
+            (asked (slot_of self.old edition index))) }
         ensures err { OnErr result (IsSame self.old self.new) }
     {
         let outcome = ask_among(self.alloc, &mut self.sheets, edition, index)?;
@@ -68,8 +70,8 @@ impl<P: Drop> Flights<P> {
         }
     }
 
-    /// How often an entry was claimed and how often its ticket was given back, the latter up to 2^31 - 1: its
-    /// starts are its quits, and one more where it is claimed or ready.
+    /// How often an entry was claimed and how often its ticket was given back, the latter up to
+    /// 2^31 - 1: its starts are its quits, and one more where it is claimed or ready.
     pub fn counts(&self, edition: u64, index: u32) -> (u64, u64)
         ensures starts { result.0 ≡ starts_of (slot_of self.now edition index) }
         ensures quits { result.1 ≡ (slot_of self.now edition index).quits }
@@ -94,7 +96,8 @@ impl<P: Drop> Flights<P> {
     /// Makes a claimed entry ready.
     pub fn done(&mut self, spent: Spent, plan: P)
         requires { (slot_of self.old spent.0 spent.1).state ≡ Claimed }
-        ensures { Puts self.old self.new spent.0 spent.1 (done (slot_of self.old spent.0 spent.1) plan) }
+        ensures { Puts self.old self.new spent.0 spent.1
+            (done (slot_of self.old spent.0 spent.1) plan) }
     {
         finish_among(&mut self.sheets, spent.edition(), spent.index(), plan);
     }
@@ -102,7 +105,8 @@ impl<P: Drop> Flights<P> {
     /// Takes a ticket back: its entry is idle again, and has one more quit unless it has 2^31 - 1.
     pub fn quit(&mut self, ticket: Ticket)
         requires { (slot_of self.old ticket.0 ticket.1).state ≡ Claimed }
-        ensures { Puts self.old self.new ticket.0 ticket.1 (quit (slot_of self.old ticket.0 ticket.1)) }
+        ensures { Puts self.old self.new ticket.0 ticket.1
+            (quit (slot_of self.old ticket.0 ticket.1)) }
     {
         let spent = ticket.spend();
         give_back_among(&mut self.sheets, spent.edition(), spent.index());
@@ -124,8 +128,10 @@ fn ask_among<P: Drop>(
     edition: u64,
     index: u32,
 ) -> Result<Outcome, AllocError>
-    ensures outcome { IfOk result (λ o. o ≡ outcome_of (slot_at sheets.old.entries edition index).state) }
-    ensures ok { OnOk result (PutsAt sheets.old.entries sheets.new.entries edition index (asked (slot_at sheets.old.entries edition index))) }
+    ensures outcome { IfOk result (λ o. o ≡ outcome_of
+        (slot_at sheets.old.entries edition index).state) }
+    ensures ok { OnOk result (PutsAt sheets.old.entries sheets.new.entries edition index
+        (asked (slot_at sheets.old.entries edition index))) }
     ensures err { OnErr result (IsSameAt sheets.old.entries sheets.new.entries) }
 {
     if let Some(sheet) = sheets.get_mut(&edition) {
@@ -142,8 +148,10 @@ fn ask_first<P: Drop>(
     index: u32,
 ) -> Result<Outcome, AllocError>
     requires { kept sheets.old.entries edition ≡ None }
-    ensures outcome { IfOk result (λ o. o ≡ outcome_of (slot_at sheets.old.entries edition index).state) }
-    ensures ok { OnOk result (PutsAt sheets.old.entries sheets.new.entries edition index (asked (slot_at sheets.old.entries edition index))) }
+    ensures outcome { IfOk result (λ o. o ≡ outcome_of
+        (slot_at sheets.old.entries edition index).state) }
+    ensures ok { OnOk result (PutsAt sheets.old.entries sheets.new.entries edition index
+        (asked (slot_at sheets.old.entries edition index))) }
     ensures err { OnErr result (IsSameAt sheets.old.entries sheets.new.entries) }
 {
     let mut sheet = Sheet::new(alloc);
@@ -155,7 +163,8 @@ fn ask_first<P: Drop>(
 /// Makes a claimed entry ready.
 fn finish_among<P: Drop>(sheets: &mut BTreeMap<u64, Sheet<P>>, edition: u64, index: u32, plan: P)
     requires { (slot_at sheets.old.entries edition index).state ≡ Claimed }
-    ensures { PutsAt sheets.old.entries sheets.new.entries edition index (done (slot_at sheets.old.entries edition index) plan) }
+    ensures { PutsAt sheets.old.entries sheets.new.entries edition index
+        (done (slot_at sheets.old.entries edition index) plan) }
 {
     if let Some(sheet) = sheets.get_mut(&edition) {
         sheet.finish(index, plan);
@@ -165,7 +174,8 @@ fn finish_among<P: Drop>(sheets: &mut BTreeMap<u64, Sheet<P>>, edition: u64, ind
 /// Makes a claimed entry idle, with one more quit.
 fn give_back_among<P: Drop>(sheets: &mut BTreeMap<u64, Sheet<P>>, edition: u64, index: u32)
     requires { (slot_at sheets.old.entries edition index).state ≡ Claimed }
-    ensures { PutsAt sheets.old.entries sheets.new.entries edition index (quit (slot_at sheets.old.entries edition index)) }
+    ensures { PutsAt sheets.old.entries sheets.new.entries edition index
+        (quit (slot_at sheets.old.entries edition index)) }
 {
     if let Some(sheet) = sheets.get_mut(&edition) {
         sheet.give_back(index);

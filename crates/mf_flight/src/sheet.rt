@@ -82,7 +82,8 @@ impl<P: Drop> Sheet<P> {
 
     /// Claims an entry that is idle.
     pub(crate) fn ask(&mut self, index: u32) -> Result<Outcome, AllocError>
-        ensures outcome { IfOk result (λ outcome. outcome ≡ outcome_of (slot_in self.old index).state) }
+        ensures outcome { IfOk result (λ outcome. outcome ≡ outcome_of
+            (slot_in self.old index).state) }
         ensures ok { OnOk result (PutsIn self.old self.new index (asked (slot_in self.old index))) }
         ensures err { OnErr result (self.new ≡ self.old) }
     {
@@ -118,9 +119,12 @@ impl<P: Drop> Sheet<P> {
 
 /// The quits of an entry that is idle, or what comes of a question for it where it isn't.
 fn idle_quits<P: Drop>(slots: &BTreeMap<u32, Slot<P>>, index: u32) -> Result<u64, Outcome>
-    ensures idle { IfOk result (λ quits. slot_in slots.now.entries index ≡ record { state = Idle; quits = quits }) }
-    ensures outcome { IfErr result (λ outcome. outcome ≡ outcome_of (slot_in slots.now.entries index).state) }
-    ensures taken { IfErr result (λ _. asked (slot_in slots.now.entries index) ≡ slot_in slots.now.entries index) }
+    ensures idle { IfOk result (λ quits. slot_in slots.now.entries index
+        ≡ record { state = Idle; quits = quits }) }
+    ensures outcome { IfErr result (λ outcome. outcome ≡ outcome_of
+        (slot_in slots.now.entries index).state) }
+    ensures taken { IfErr result (λ _. asked (slot_in slots.now.entries index)
+        ≡ slot_in slots.now.entries index) }
 {
     let Some(slot) = slots.get(&index) else {
         return Ok(0);
@@ -138,7 +142,8 @@ fn claim<P: Drop>(
     index: u32,
     quits: u64,
 ) -> Result<(), AllocError>
-    ensures ok { OnOk result (PutsIn slots.old.entries slots.new.entries index (record { state = Claimed; quits = quits })) }
+    ensures ok { OnOk result (PutsIn slots.old.entries slots.new.entries index
+        (record { state = Claimed; quits = quits })) }
     ensures err { OnErr result (slots.new.entries ≡ slots.old.entries) }
 {
     let state = State::Claimed;
@@ -149,7 +154,8 @@ fn claim<P: Drop>(
 /// Gives an entry another state.
 fn set_state<P: Drop>(slots: &mut BTreeMap<u32, Slot<P>>, index: u32, state: State<P>)
     requires { IsSome (kept slots.old.entries index) }
-    ensures { PutsIn slots.old.entries slots.new.entries index (record (slot_in slots.old.entries index) { state = state }) }
+    ensures { PutsIn slots.old.entries slots.new.entries index
+        (record (slot_in slots.old.entries index) { state = state }) }
 {
     if let Some(slot) = slots.get_mut(&index) {
         slot.state = state;
@@ -160,7 +166,8 @@ fn set_state<P: Drop>(slots: &mut BTreeMap<u32, Slot<P>>, index: u32, state: Sta
 fn raise_quits<P: Drop>(slots: &mut BTreeMap<u32, Slot<P>>, index: u32) -> bool
     requires there { IsSome (kept slots.old.entries index) }
     requires small { (slot_in slots.old.entries index).quits ≤ most_quits }
-    ensures puts { PutsIn slots.old.entries slots.new.entries index (quit (slot_in slots.old.entries index)) }
+    ensures puts { PutsIn slots.old.entries slots.new.entries index
+        (quit (slot_in slots.old.entries index)) }
     ensures raised { result ≡ nat_lt (slot_in slots.old.entries index).quits most_quits }
 {
     match slots.get_mut(&index) {

@@ -4,7 +4,8 @@ use std::marker::Model;
 
 /// The leave to compile one message of one edition, seen as that edition and that index.
 ///
-/// It is made by `Flights::ask` alone, and it can neither be copied nor dropped: who has it gives it back by
+/// It is made by `Flights::ask` alone, and it can neither be copied nor dropped: who has it gives
+/// it back by
 /// `Flights::quit`, or spends it.
 #[derive(Debug)]
 pub struct Ticket {

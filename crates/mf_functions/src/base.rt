@@ -13,10 +13,11 @@ use mf_text::Pair;
 use mf_value::{BuiltIn, Called, Options, Value};
 use std::alloc::{AllocError, Global};
 
-/// What the function gives for its operand, if there is one, and its options; no function has a value for any operand.
+/// What the function gives for its operand, if there is one, and its options; no function has a
+/// value for any operand.
 ///
-/// An option that isn't written has the value of the first preset that names it and is allowed, before the one that the
-/// operand keeps. A preset that isn't allowed is passed over.
+/// An option that isn't written has the value of the first preset that names it and is allowed,
+/// before the one that the operand keeps. A preset that isn't allowed is passed over.
 pub fn base_called(
     alloc: Global,
     record: &LocaleRecord,
@@ -26,7 +27,9 @@ pub fn base_called(
     options: &Options,
 ) -> Result<Called, AllocError>
     requires few { length options.now < 2 ^ 32 }
-    ensures { IfOk result (λ called. called ≡ functions.base_called «record».now function presets.now (option_copied operand.entry) options.now) }
+    ensures { IfOk result (λ called. called
+        ≡ functions.base_called «record».now function presets.now
+        (option_copied operand.entry) options.now) }
 {
     match function {
         Some(BuiltIn::String) => string_fn(alloc, operand, options),

@@ -1,6 +1,6 @@
 //! The built-in functions as a set of functions.
 
-ghost use Rattle.std.specs.Prelude.{◌≡◌, ◌<◌, ◌^◌, length, IsTrue, IfOk};
+ghost use Rattle.std.specs.Prelude.{◌≡◌, ◌<◌, ◌^◌};
 ghost use Rattle.std.specs.Option.{option_copied};
 ghost use Rattle.mf_meaning.specs.Functions as functions;
 ghost use Rattle.mf_meaning.specs.Ranks.{built_ins};
@@ -14,7 +14,8 @@ use mf_tree::Identifier;
 use mf_value::{BuiltIn, Called, Functions, Options, Ranked, Value};
 use std::alloc::{AllocError, Global};
 
-/// The functions of an edition without handlers, with the numbers of a locale: `:string`, `:number` and `:integer`.
+/// The functions of an edition without handlers, with the numbers of a locale: `:string`, `:number`
+/// and `:integer`.
 #[derive(Clone, Copy)]
 pub struct BuiltIns<'a> {
     pub place: &'a LocaleRecord,

@@ -1,8 +1,8 @@
-//! The functions that every message may call, `:string`, `:number` and `:integer`; what their values show; and how well
-//! a key matches one.
+//! The functions that every message may call, `:string`, `:number` and `:integer`; what their
+//! values show; and how well a key matches one.
 //!
-//! Source: Unicode TS 35, Part 9, "Default Functions" and "Pattern Selection". Fractions are exact: no floating point is
-//! read or written.
+//! Source: Unicode TS 35, Part 9, "Default Functions" and "Pattern Selection". Fractions are exact:
+//! no floating point is read or written.
 #![tactic(auto)]
 
 mod base;

@@ -18,11 +18,12 @@ use std::alloc::{AllocError, Global};
 
 /// `:number`: a number with options of its own, and the value that it has (Unicode TS 35, Part 9, "The `:number` function").
 ///
-/// The operand is a number, or a text that is a number literal of at most 36 digits and a scale of at most 36; there is no
-/// value for any other one, and for none. The options are `select`, `signDisplay`, `useGrouping`, `minimumIntegerDigits`
-/// and `minimumSignificantDigits` and `maximumSignificantDigits` (1 to 21), `minimumFractionDigits` and
+/// The operand is a number, or a text that is a number literal of at most 36 digits and a scale of
+/// at most 36; there is no value for any other one, and for none. The options are `select`,
+/// `signDisplay`, `useGrouping`, `minimumIntegerDigits` and `minimumSignificantDigits` and `maximumSignificantDigits` (1 to 21), `minimumFractionDigits` and
 /// `maximumFractionDigits` (0 to 20); each that isn't written is inherited from the operand. An option with another name or
-/// a value that isn't allowed is refused, and so is a `select` that a variable gives; then the number selects nothing.
+/// a value that isn't allowed is refused, and so is a `select` that a variable gives; then the
+/// number selects nothing.
 pub fn number_fn(
     alloc: Global,
     record: &LocaleRecord,
@@ -30,7 +31,8 @@ pub fn number_fn(
     options: &Options,
 ) -> Result<Called, AllocError>
     requires few { length options.now < 2 ^ 32 }
-    ensures { IfOk result (λ called. called ≡ functions.number_called «record».now Number [] (option_copied operand.entry) options.now) }
+    ensures { IfOk result (λ called. called ≡ functions.number_called «record».now Number []
+        (option_copied operand.entry) options.now) }
 {
     number_called(alloc, record, NumberFunction::Number, &[], operand, options)
 }
@@ -44,7 +46,8 @@ pub fn integer_fn(
     options: &Options,
 ) -> Result<Called, AllocError>
     requires few { length options.now < 2 ^ 32 }
-    ensures { IfOk result (λ called. called ≡ functions.number_called «record».now Integer [] (option_copied operand.entry) options.now) }
+    ensures { IfOk result (λ called. called ≡ functions.number_called «record».now Integer []
+        (option_copied operand.entry) options.now) }
 {
     number_called(
         alloc,
@@ -66,7 +69,9 @@ pub fn number_called(
     options: &Options,
 ) -> Result<Called, AllocError>
     requires few { length options.now < 2 ^ 32 }
-    ensures { IfOk result (λ called. called ≡ functions.number_called «record».now function presets.now (option_copied operand.entry) options.now) }
+    ensures { IfOk result (λ called. called
+        ≡ functions.number_called «record».now function presets.now
+        (option_copied operand.entry) options.now) }
 {
     let Some((amount, inherited)) = operand_number(operand) else {
         return Ok(Called {

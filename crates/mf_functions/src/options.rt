@@ -2,7 +2,7 @@
 
 ghost use Rattle.std.specs.Prelude.{◌≡◌};
 ghost use Rattle.mf_meaning.specs.Options as options;
-ghost use Rattle.mf_value.specs.NumberOptions.{option_named as named};
+ghost use Rattle.mf_value.specs.NumberOptions.{option_named};
 
 use mf_tree::Identifier;
 use mf_value::{NumberFunction, NumberOption};
@@ -19,7 +19,7 @@ pub fn option_of(function: NumberFunction, identifier: &Identifier) -> Option<Nu
 
 /// The option of the function that has this name.
 pub fn option_named(function: NumberFunction, name: &str) -> Option<NumberOption>
-    ensures { result ≡ options.option_at function (named name.now) }
+    ensures { result ≡ options.option_at function (option_named name.now) }
 {
     match NumberOption::named(name) {
         Some(option) if option.is_of(function) => Some(option),

@@ -26,8 +26,10 @@ pub fn read_options(
     options: &Options,
 ) -> Result<Reading, AllocError>
     requires few { length options.now < 2 ^ 32 }
-    ensures written { IfOk result (λ reading. reading.written ≡ preset_from function (written_from function nothing_written options.now) presets.now) }
-    ensures refused { IfOk result (λ reading. reading.refused ≡ refused_options (is_allowed function) options.now) }
+    ensures written { IfOk result (λ reading. reading.written ≡ preset_from function
+        (written_from function nothing_written options.now) presets.now) }
+    ensures refused { IfOk result (λ reading. reading.refused ≡ refused_options
+        (is_allowed function) options.now) }
 {
     let mut written = Written::nothing();
     let mut refused = List::new(alloc);

@@ -1,6 +1,6 @@
 //! How well a key matches a value.
 
-ghost use Rattle.std.specs.Prelude.{◌≡◌, ℕ, List, Option, Some, None, IfOk, OnOk};
+ghost use Rattle.std.specs.Prelude.{◌≡◌, ℕ, List, Option, Some, None, IfOk};
 ghost use Rattle.mf_meaning.specs.Numbers.{is_literal, is_number};
 ghost use Rattle.mf_meaning.specs.Ranks as ranks;
 ghost use Rattle.mf_functions.specs.Selecting.{rank_by, IsOf};
@@ -20,17 +20,20 @@ pub enum Selecting {
     Nothing,
     /// A text, in its normal form.
     Text(Text),
-    /// A number: the key that is its exact text, if a key can be, and its category, where it selects by one.
+    /// A number: the key that is its exact text, if a key can be, and its category, where it
+    /// selects by one.
     Number {
         exact: Option<Text>,
         category: Option<Category>,
     },
 }
 
-/// How well a key matches a value (Unicode TS 35, Part 9, "Pattern Selection"): a text the key with its normal form; a
-/// number the key that is its exact text, unless an option adds digits to that, and the keyword of its plural category.
+/// How well a key matches a value (Unicode TS 35, Part 9, "Pattern Selection"): a text the key with
+/// its normal form; a number the key that is its exact text, unless an option adds digits to that,
+/// and the keyword of its plural category.
 ///
-/// Beside what `Selecting::of` takes, it takes no memory but for the normal form of the key of a text.
+/// Beside what `Selecting::of` takes, it takes no memory but for the normal form of the key of a
+/// text.
 pub fn select_rank(
     alloc: Global,
     record: &LocaleRecord,

@@ -12,8 +12,9 @@ use mf_text::Text;
 use mf_value::{Content, Kept, Value};
 use std::alloc::{AllocError, Global};
 
-/// What a text or a number shows: its prefix, its text, a number's being that of its shown number in the locale's layout,
-/// and its suffix (Unicode TS 35, Part 9, "Formatting of the Resolved Value").
+/// What a text or a number shows: its prefix, its text, a number's being that of its shown number
+/// in the locale's layout, and its suffix (Unicode TS 35, Part 9, "Formatting of the Resolved
+/// Value").
 pub fn shown_text(alloc: Global, record: &LocaleRecord, value: &Value) -> Result<Text, AllocError>
     requires { IsTextOrNumber value.now.content }
     ensures { IfOk result (λ text. text ≡ shown.shown_text «record».now value.now) }

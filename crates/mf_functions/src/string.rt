@@ -11,15 +11,16 @@ use std::alloc::{AllocError, Global};
 
 /// `:string`: a text that selects as one (Unicode TS 35, Part 9, "The `:string` function").
 ///
-/// The operand is a text, or a number whose exact text is taken; there is no value for any other one, and for none. Each
-/// option is refused, since it has none.
+/// The operand is a text, or a number whose exact text is taken; there is no value for any other
+/// one, and for none. Each option is refused, since it has none.
 pub fn string_fn(
     alloc: Global,
     operand: Option<&Value>,
     options: &Options,
 ) -> Result<Called, AllocError>
     requires few { length options.now < 2 ^ 32 }
-    ensures { IfOk result (λ called. called ≡ functions.string_called (option_copied operand.entry) options.now) }
+    ensures { IfOk result (λ called. called ≡ functions.string_called
+        (option_copied operand.entry) options.now) }
 {
     let Some(text) = operand_text(alloc, operand)? else {
         return Ok(bad_operand(alloc));
@@ -54,7 +55,8 @@ pub fn operand_text(alloc: Global, operand: Option<&Value>) -> Result<Option<Tex
 /// Each option, refused.
 pub fn refused_options(alloc: Global, options: &Options) -> Result<CallFaults, AllocError>
     requires few { length options.now < 2 ^ 32 }
-    ensures { IfOk result (λ faults. faults ≡ functions.refused_options (λ given. false) options.now) }
+    ensures { IfOk result (λ faults. faults ≡ functions.refused_options
+        (λ given. false) options.now) }
 {
     let mut refused = List::new(alloc);
     for (place, _given) in options.as_slice().iter().enumerate() {

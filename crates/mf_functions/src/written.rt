@@ -72,7 +72,8 @@ impl Written {
         written
     }
 
-    /// Takes up a value of an option, which a literal gives or a variable, and says whether it is allowed.
+    /// Takes up a value of an option, which a literal gives or a variable, and says whether it is
+    /// allowed.
     fn take_option(&mut self, option: Option<NumberOption>, literal: bool, text: &str) -> bool
         ensures allowed { result ≡ takes_option option literal text.now }
         ensures taken { self.new ≡ with_option self.old option literal text.now }

@@ -10,13 +10,16 @@ use mf_text::{Text, nfc};
 use mf_value::{BuiltIn, Called, Entries, HandlerDef, Options, Value};
 use std::alloc::{AllocError, Global};
 
-/// What a handler gives for its operand, if there is one, and its options, whether it may be published or not.
+/// What a handler gives for its operand, if there is one, and its options, whether it may be
+/// published or not.
 ///
-/// An alias calls its base, `string`, `number` or `integer`; an option has the value that is written, else that of the first
-/// preset that names it and is allowed, else the one that the operand keeps. A preset that isn't allowed is passed over, and
-/// another base has no value. An affix does the same, and its value is shown between its prefix and its suffix. A table
-/// gives the text under the key whose normal form is that of the operand's option text, else its default, as a text that
-/// selects as one; it has no options, and no value for an operand that is missing or a fallback.
+/// An alias calls its base, `string`, `number` or `integer`; an option has the value that is
+/// written, else that of the first preset that names it and is allowed, else the one that the
+/// operand keeps. A preset that isn't allowed is passed over, and another base has no value. An
+/// affix does the same, and its value is shown between its prefix and its suffix. A table gives the
+/// text under the key whose normal form is that of the operand's option text, else its default, as
+/// a text that selects as one; it has no options, and no value for an operand that is missing or a
+/// fallback.
 pub fn call_handler(
     alloc: Global,
     record: &LocaleRecord,
@@ -25,7 +28,8 @@ pub fn call_handler(
     options: &Options,
 ) -> Result<Called, AllocError>
     requires few { length options.now < 2 ^ 32 }
-    ensures { IfOk result (λ called. called ≡ handlers.handler_called «record».now def.now (option_copied operand.entry) options.now) }
+    ensures { IfOk result (λ called. called ≡ handlers.handler_called «record».now def.now
+        (option_copied operand.entry) options.now) }
 {
     match def {
         HandlerDef::Alias { base, presets } => {
@@ -50,7 +54,8 @@ pub fn call_handler(
 
 /// What was called, its value between a prefix and a suffix.
 fn called_between(prefix: &Text, suffix: &Text, called: Called) -> Result<Called, AllocError>
-    ensures { IfOk result (λ between. between ≡ handlers.called_between prefix.now suffix.now called) }
+    ensures { IfOk result (λ between. between
+        ≡ handlers.called_between prefix.now suffix.now called) }
 {
     let Called { value, faults } = called;
     match value {
@@ -98,7 +103,8 @@ fn table_called(
     options: &Options,
 ) -> Result<Called, AllocError>
     requires few { length options.now < 2 ^ 32 }
-    ensures { IfOk result (λ called. called ≡ handlers.table_called entries.now default.now (option_copied operand.entry) options.now) }
+    ensures { IfOk result (λ called. called ≡ handlers.table_called entries.now default.now
+        (option_copied operand.entry) options.now) }
 {
     let asked = operand_text(alloc, operand)?;
     let Some(text) = found_text(alloc, entries, default, asked)? else {
@@ -118,7 +124,8 @@ fn found_text(
     default: &Option<Text>,
     asked: Option<Text>,
 ) -> Result<Option<Text>, AllocError>
-    ensures { IfOk result (λ text. text ≡ option_and_then (handlers.table_text entries.now default.now) asked) }
+    ensures { IfOk result (λ text. text ≡ option_and_then
+        (handlers.table_text entries.now default.now) asked) }
 {
     match asked {
         Some(asked) => table_text(alloc, entries, default, &asked),

@@ -10,9 +10,11 @@ use mf_text::Pair;
 use mf_tree::{Identifier, Name};
 use mf_value::{BuiltIn, DefError, Entries, HandlerDef};
 
-/// Whether a handler is fine, and the first thing that is wrong with it where it isn't: its name has no namespace, or `u`
-/// or `own`; its base isn't `string`, `number` or `integer`; a preset isn't an option of the base with a value that is
-/// allowed; a table's key has the normal form of an earlier one. It takes no memory.
+/// Whether a handler is fine, and the first thing that is wrong with it where it isn't: its name
+/// has no namespace, or `u` or `own`; its base isn't `string`, `number` or `integer`; a preset
+/// isn't an option of the base with a value that is allowed; a table's key has the normal form of
+/// an earlier one. It takes no memory.
+/// See DECISIONS 123.
 pub fn check_def(name: &Identifier, def: &HandlerDef) -> Result<(), DefError>
     requires few { IsFew def.now }
     ensures { result ≡ handlers.checked name.now def.now }

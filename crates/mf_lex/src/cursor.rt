@@ -68,7 +68,8 @@ impl<'a> Cursor<'a> {
 
     /// Passes the next character, whatever it is.
     pub fn next(&mut self) -> Option<char>
-        ensures passed { MatchOption result ((self.old.left ≡ []) × (self.new ≡ self.old)) (λ c. self.old.left ≡ c ∷ self.new.left) }
+        ensures passed { MatchOption result ((self.old.left ≡ []) × (self.new ≡ self.old))
+            (λ c. self.old.left ≡ c ∷ self.new.left) }
         ensures whole { self.new.whole ≡ self.old.whole }
     {
         let mut chars = self.rest.chars();

@@ -8,8 +8,10 @@ use mf_text::is_escapable;
 
 /// Passes this character, if it is the next one.
 pub fn pass_one(cursor: &mut Cursor, c: char) -> bool
-    ensures passed { MatchBool result (cursor.old.left ≡ c ∷ cursor.new.left) (cursor.new ≡ cursor.old) }
-    ensures computed { MatchBool result (one_at c cursor.old.left ≡ Some cursor.new.left) (one_at c cursor.old.left ≡ None) }
+    ensures passed { MatchBool result (cursor.old.left ≡ c ∷ cursor.new.left)
+        (cursor.new ≡ cursor.old) }
+    ensures computed { MatchBool result (one_at c cursor.old.left ≡ Some cursor.new.left)
+        (one_at c cursor.old.left ≡ None) }
     ensures whole { cursor.new.whole ≡ cursor.old.whole }
 {
     let mut ahead = cursor.save();

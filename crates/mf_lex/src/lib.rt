@@ -1,6 +1,8 @@
-//! The readers of the lexical rules: each takes the longest text of its rule that begins at the cursor.
+//! The readers of the lexical rules: each takes the longest text of its rule that begins at the
+//! cursor.
 //!
-//! The rules are those of [Unicode MessageFormat](https://www.unicode.org/reports/tr35/tr35-messageFormat.html#syntax):
+//! The rules are those of [Unicode
+//! MessageFormat](https://www.unicode.org/reports/tr35/tr35-messageFormat.html#syntax):
 //! `o`, `s`, `escaped-char`, `name`, `identifier` and `literal`.
 #![tactic(auto)]
 

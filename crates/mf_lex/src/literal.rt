@@ -13,7 +13,8 @@ use std::alloc::{AllocError, Global};
 
 /// Passes a literal, and gives its value.
 pub fn read_literal(alloc: Global, cursor: &mut Cursor) -> Result<Option<Text>, AllocError>
-    ensures computed { IfOk result (λ found. Finds literal_at found cursor.old.left cursor.new.left) }
+    ensures computed { IfOk result (λ found.
+        Finds literal_at found cursor.old.left cursor.new.left) }
     ensures unchanged { OnErr result (cursor.new ≡ cursor.old) }
     ensures whole { cursor.new.whole ≡ cursor.old.whole }
 {
@@ -75,7 +76,8 @@ fn read_quoted(alloc: Global, cursor: &mut Cursor) -> Result<Option<Text>, Alloc
 
 /// Passes the characters that stand for themselves, which are put at the end of the value.
 fn push_plain(value: &mut Text, cursor: &mut Cursor) -> Result<(), AllocError>
-    ensures gathered { OnOk result (gathered value.new cursor.new.left ≡ gathered value.old cursor.old.left) }
+    ensures gathered { OnOk result (gathered value.new cursor.new.left
+        ≡ gathered value.old cursor.old.left) }
     ensures end { is_next is_quoted cursor.new.left ≡ false }
     ensures shorter { length cursor.new.left ≤ length cursor.old.left }
     ensures whole { cursor.new.whole ≡ cursor.old.whole }

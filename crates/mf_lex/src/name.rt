@@ -28,7 +28,8 @@ pub fn read_name(alloc: Global, cursor: &mut Cursor) -> Result<Option<Text>, All
 /// Passes an identifier.
 #[tactic(auto, unfolding(crate::specs::Computed::identifier_at))]
 pub fn read_identifier(alloc: Global, cursor: &mut Cursor) -> Result<Option<Ident>, AllocError>
-    ensures computed { IfOk result (λ found. Finds identifier_at found cursor.old.left cursor.new.left) }
+    ensures computed { IfOk result (λ found.
+        Finds identifier_at found cursor.old.left cursor.new.left) }
     ensures unchanged { OnErr result (cursor.new ≡ cursor.old) }
     ensures whole { cursor.new.whole ≡ cursor.old.whole }
 {
@@ -54,7 +55,8 @@ pub fn read_identifier(alloc: Global, cursor: &mut Cursor) -> Result<Option<Iden
 /// Passes a name with the marks beside it, and gives it without them.
 #[tactic(auto, unfolding(crate::specs::Computed::name_at))]
 fn pass_name<'a>(cursor: &mut Cursor<'a>) -> Option<&'a str>
-    ensures computed { MatchOption result (name_at cursor.old.left ≡ None) (λ name. name_at cursor.old.left ≡ Some (chars name.now, cursor.new.left)) }
+    ensures computed { MatchOption result (name_at cursor.old.left ≡ None)
+        (λ name. name_at cursor.old.left ≡ Some (chars name.now, cursor.new.left)) }
     ensures whole { cursor.new.whole ≡ cursor.old.whole }
 {
     pass_mark(cursor);
@@ -73,7 +75,8 @@ fn pass_mark(cursor: &mut Cursor)
 
 /// Passes a name without marks.
 fn pass_bare_name<'a>(cursor: &mut Cursor<'a>) -> Option<&'a str>
-    ensures computed { MatchOption result (bare_name_at cursor.old.left ≡ None) (λ name. bare_name_at cursor.old.left ≡ Some (chars name.now, cursor.new.left)) }
+    ensures computed { MatchOption result (bare_name_at cursor.old.left ≡ None)
+        (λ name. bare_name_at cursor.old.left ≡ Some (chars name.now, cursor.new.left)) }
     ensures whole { cursor.new.whole ≡ cursor.old.whole }
 {
     match cursor.peek() {

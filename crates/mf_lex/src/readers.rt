@@ -1,4 +1,5 @@
-//! The readers of the rules: each passes the longest text of its rule, and nothing where none begins.
+//! The readers of the rules: each passes the longest text of its rule, and nothing where none
+//! begins.
 ghost use Rattle.std.specs.Prelude.{◌≡◌, ◌<◌, ◌≤◌, length, [], ◌∷◌, Some, None, true, false, chars, MatchBool, IfOk, OnErr};
 ghost use Rattle.mf_text.specs.Characters.{is_text};
 ghost use Rattle.mf_text.specs.Languages.{Word};
@@ -20,8 +21,10 @@ impl<'a> Cursor<'a> {
     /// Passes this character, if it is the next one.
     pub fn one(&mut self, c: char) -> bool
         ensures longest { Passes (Word (c ∷ [])) result self.old.left self.new.left }
-        ensures passed { MatchBool result (self.old.left ≡ c ∷ self.new.left) (self.new ≡ self.old) }
-        ensures computed { MatchBool result (one_at c self.old.left ≡ Some self.new.left) (one_at c self.old.left ≡ None) }
+        ensures passed { MatchBool result (self.old.left ≡ c ∷ self.new.left)
+            (self.new ≡ self.old) }
+        ensures computed { MatchBool result (one_at c self.old.left ≡ Some self.new.left)
+            (one_at c self.old.left ≡ None) }
         ensures whole { self.new.whole ≡ self.old.whole }
     {
         pass_one(self, c)
@@ -41,14 +44,17 @@ impl<'a> Cursor<'a> {
     pub fn s(&mut self) -> bool
         ensures longest { Passes S result self.old.left self.new.left }
         ensures computed { result ≡ has_space self.old.left }
-        ensures passed { MatchBool result (self.new.left ≡ after_space self.old.left) (self.new ≡ self.old) }
-        ensures shorter { MatchBool result (length self.new.left < length self.old.left) (length self.new.left ≤ length self.old.left) }
+        ensures passed { MatchBool result (self.new.left ≡ after_space self.old.left)
+            (self.new ≡ self.old) }
+        ensures shorter { MatchBool result (length self.new.left < length self.old.left)
+            (length self.new.left ≤ length self.old.left) }
         ensures whole { self.new.whole ≡ self.old.whole }
     {
         pass_needed_space(self)
     }
 
-    /// Passes the characters of a text that stand for themselves, as many as there are, and gives them (`text-char`).
+    /// Passes the characters of a text that stand for themselves, as many as there are, and gives
+    /// them (`text-char`).
     pub fn text_run(&mut self) -> &'a str
         ensures taken { chars result.now ≡ run is_text self.old.left }
         ensures computed { self.new.left ≡ behind_run is_text self.old.left }
@@ -59,7 +65,8 @@ impl<'a> Cursor<'a> {
         take_run(self, Class::Text)
     }
 
-    /// Passes a backslash and one of the characters that it may stand before, which is given (`escaped-char`).
+    /// Passes a backslash and one of the characters that it may stand before, which is given
+    /// (`escaped-char`).
     pub fn escape(&mut self) -> Option<char>
         ensures longest { Reads SpellsEscapedChar result self.old.left self.new.left }
         ensures computed { Finds escape_at result self.old.left self.new.left }
@@ -69,13 +76,15 @@ impl<'a> Cursor<'a> {
         pass_escape(self)
     }
 
-    /// Passes a name, with the one mark that may stand before it and the one behind it, which it is given without (`name`).
+    /// Passes a name, with the one mark that may stand before it and the one behind it, which it is
+    /// given without (`name`).
     ///
     /// # Errors
     ///
     /// Want of memory alone, at which the cursor stays where it was.
     pub fn name(&mut self, alloc: Global) -> Result<Option<Text>, AllocError>
-        ensures longest { IfOk result (λ found. Reads SpellsName found self.old.left self.new.left) }
+        ensures longest { IfOk result (λ found.
+            Reads SpellsName found self.old.left self.new.left) }
         ensures computed { IfOk result (λ found. Finds name_at found self.old.left self.new.left) }
         ensures shorter { IfOk result (λ found. Shortens found self.old.left self.new.left) }
         ensures unchanged { OnErr result (self.new ≡ self.old) }
@@ -90,8 +99,10 @@ impl<'a> Cursor<'a> {
     ///
     /// Want of memory alone, at which the cursor stays where it was.
     pub fn identifier(&mut self, alloc: Global) -> Result<Option<Ident>, AllocError>
-        ensures longest { IfOk result (λ found. Reads SpellsIdent found self.old.left self.new.left) }
-        ensures computed { IfOk result (λ found. Finds identifier_at found self.old.left self.new.left) }
+        ensures longest { IfOk result (λ found.
+            Reads SpellsIdent found self.old.left self.new.left) }
+        ensures computed { IfOk result (λ found.
+            Finds identifier_at found self.old.left self.new.left) }
         ensures shorter { IfOk result (λ found. Shortens found self.old.left self.new.left) }
         ensures unchanged { OnErr result (self.new ≡ self.old) }
         ensures whole { self.new.whole ≡ self.old.whole }
@@ -99,14 +110,17 @@ impl<'a> Cursor<'a> {
         read_identifier(alloc, self)
     }
 
-    /// Passes a literal, whose value is given: without the bars, and with the escapes replaced (`literal`).
+    /// Passes a literal, whose value is given: without the bars, and with the escapes replaced
+    /// (`literal`).
     ///
     /// # Errors
     ///
     /// Want of memory alone, at which the cursor stays where it was.
     pub fn literal(&mut self, alloc: Global) -> Result<Option<Text>, AllocError>
-        ensures longest { IfOk result (λ found. Reads SpellsLiteral found self.old.left self.new.left) }
-        ensures computed { IfOk result (λ found. Finds literal_at found self.old.left self.new.left) }
+        ensures longest { IfOk result (λ found.
+            Reads SpellsLiteral found self.old.left self.new.left) }
+        ensures computed { IfOk result (λ found.
+            Finds literal_at found self.old.left self.new.left) }
         ensures shorter { IfOk result (λ found. Shortens found self.old.left self.new.left) }
         ensures unchanged { OnErr result (self.new ≡ self.old) }
         ensures whole { self.new.whole ≡ self.old.whole }

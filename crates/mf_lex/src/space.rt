@@ -19,7 +19,8 @@ pub fn pass_space(cursor: &mut Cursor)
 #[tactic(auto, unfolding(crate::specs::Computed::after_space, crate::specs::Computed::has_space))]
 pub fn pass_needed_space(cursor: &mut Cursor) -> bool
     ensures computed { result ≡ has_space cursor.old.left }
-    ensures passed { MatchBool result (cursor.new.left ≡ after_space cursor.old.left) (cursor.new ≡ cursor.old) }
+    ensures passed { MatchBool result (cursor.new.left ≡ after_space cursor.old.left)
+        (cursor.new ≡ cursor.old) }
     ensures whole { cursor.new.whole ≡ cursor.old.whole }
 {
     let mut behind = cursor.save();

@@ -1,4 +1,5 @@
-//! A source linted: its canonical form, or the errors that make it invalid; and what holds of canonical sources.
+//! A source linted: its canonical form, or the errors that make it invalid; and what holds of
+//! canonical sources.
 #![tactic(auto)]
 
 pub mod laws;

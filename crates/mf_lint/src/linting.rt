@@ -17,8 +17,9 @@ pub enum Linted {
     Invalid(Faults),
 }
 
-/// What there is to say of a source. Source: Unicode TS 35, Part 9, "Syntax Errors" and "Data Model Errors"; the choice
-/// of a canonical source is this project's own.
+/// What there is to say of a source. Source: Unicode TS 35, Part 9, "Syntax Errors" and "Data Model
+/// Errors"; the choice of a canonical source is this project's own.
+/// See DECISIONS 51.
 #[tactic(auto, using(crate::proofs::Lints::valid_lints, crate::proofs::Lints::invalid_computed))]
 pub fn lint(alloc: Global, source: &str) -> Result<Linted, AllocError>
     ensures lints { IfOk result (λ linted. Lints (chars source.now) linted) }

@@ -7,8 +7,8 @@ use mf_plural::Rules;
 use mf_text::{Direction, Text};
 use std::alloc::{AllocError, Global};
 
-/// The record of every language of which no record was published: from left to right, `.` before the fraction, `,`
-/// between groups of three digits, and no plural rules.
+/// The record of every language of which no record was published: from left to right, `.` before
+/// the fraction, `,` between groups of three digits, and no plural rules.
 pub fn root(alloc: Global) -> Result<LocaleRecord, AllocError>
     ensures { IfOk result (λ r. r ≡ root_record) }
 {

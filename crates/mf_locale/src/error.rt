@@ -13,7 +13,8 @@ pub enum LocaleError {
     /// This field of the record is the first that is missing, of another kind or out of range.
     #[error("the field {} is missing or wrong", field.as_str())]
     BadField { field: RecordField },
-    /// In this field of the record, the first that is bad, the first bad rule has this number, counted from 1.
+    /// In this field of the record, the first that is bad, the first bad rule has this number,
+    /// counted from 1.
     #[error("rule {rule} of the field {} is bad", field.as_str())]
     BadRule { field: RecordField, rule: u32 },
     /// There is no memory for it.

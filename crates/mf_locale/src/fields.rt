@@ -5,7 +5,7 @@ ghost use Rattle.std.specs.Option.{option_copied};
 ghost use Rattle.serde_json.specs.View.{view};
 ghost use Rattle.mf_locale.specs.RecordFields as fields;
 ghost use Rattle.mf_locale.specs.RecordReading.{IsDue};
-ghost use Rattle.mf_numfmt.specs.Sizes.{is_size as size_test};
+ghost use Rattle.mf_numfmt.specs.Sizes.{is_size};
 
 use crate::error::LocaleError;
 use crate::field::RecordField;
@@ -152,7 +152,7 @@ fn size_from(number: u64) -> Option<GroupSize>
 
 // Whether a number is a size of groups.
 fn is_size(number: u64) -> bool
-    ensures { result ≡ size_test number }
+    ensures { result ≡ is_size number }
 {
     number >= 1 && number <= LARGEST_SIZE
 }

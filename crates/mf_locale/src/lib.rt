@@ -1,5 +1,5 @@
-//! Language tags, the chains of tags in which messages and locale records are looked up, and locale records, read from
-//! JSON.
+//! Language tags, the chains of tags in which messages and locale records are looked up, and locale
+//! records, read from JSON.
 #![tactic(auto)]
 
 mod default;

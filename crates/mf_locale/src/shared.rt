@@ -6,6 +6,7 @@ use std::marker::Model;
 use std::sync::Arc;
 
 /// A locale record that several owners may share, seen as the record.
+/// See DECISIONS 58.
 #[derive(Debug, Drop)]
 pub struct SharedRecord {
     record: Arc<LocaleRecord>,

@@ -72,9 +72,9 @@ impl Clone for Tag {
 
 /// The tag that a text spells, with its letters in lower case.
 ///
-/// A tag has one or more subtags with `-` between them and at most 35 bytes. The first subtag has 2 to 8 ASCII
-/// letters, each further one 1 to 8 ASCII letters or digits. Every other text is [`LocaleError::BadTag`],
-/// and no other error comes but `OutOfMemory`.
+/// A tag has one or more subtags with `-` between them and at most 35 bytes. The first subtag has 2
+/// to 8 ASCII letters, each further one 1 to 8 ASCII letters or digits. Every other text is
+/// [`LocaleError::BadTag`], and no other error comes but `OutOfMemory`.
 pub fn read_tag(alloc: Global, text: &str) -> Result<Tag, LocaleError>
     ensures ok { IfOk result (λ tag. tag ≡ lower_case (chars text.now)) }
     ensures tag { IfOk result (λ _. IsTrue (is_tag (chars text.now))) }

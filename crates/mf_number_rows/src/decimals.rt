@@ -2,7 +2,8 @@
 use mf_decimal::{Decimal, NumberError, of_i64, of_u64, read};
 use std::alloc::{AllocError, Global};
 
-/// The coefficient and the scale of a number, its exact text and its whole part, or why a text is no number.
+/// The coefficient and the scale of a number, its exact text and its whole part, or why a text is
+/// no number.
 pub fn answer(alloc: Global, asked: &str) -> Result<String, AllocError> {
     match decimal_of(asked) {
         Ok(number) => told(alloc, &number),

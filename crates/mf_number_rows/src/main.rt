@@ -1,8 +1,10 @@
-//! The program `mf_number_rows`: reads rows, each what is asked, ` => ` and what is expected, and prints each that differs.
+//! The program `mf_number_rows`: reads rows, each what is asked, ` => ` and what is expected, and
+//! prints each that differs.
 //!
-//! The tables are those of decimals, plural rules, number texts, tags and locale records; each says at its head how its rows
-//! read. A line that begins with `# ` is a comment, a line `given ..` holds for the rows below it, and `\u{2068}` stands for
-//! the character of that number. Behind the differences of a table stand its counts.
+//! The tables are those of decimals, plural rules, number texts, tags and locale records; each says
+//! at its head how its rows read. A line that begins with `# ` is a comment, a line `given ..`
+//! holds for the rows below it, and `\u{2068}` stands for the character of that number. Behind the
+//! differences of a table stand its counts.
 #![tactic(auto)]
 
 mod decimals;

@@ -5,7 +5,8 @@ use mf_plural::{Category, RuleError, Rules, category, read_rules};
 use std::alloc::{AllocError, Global};
 use std::fmt::Write;
 
-/// The categories of numbers by the rules before `?`, or the keywords of rules, or which of them is bad.
+/// The categories of numbers by the rules before `?`, or the keywords of rules, or which of them is
+/// bad.
 pub fn answer(alloc: Global, asked: &str) -> Result<String, AllocError> {
     let (text, numbers) = asked.split_once(" ? ").unwrap_or((asked, ""));
     match read_rules(alloc, text) {

@@ -4,8 +4,8 @@ ghost use Rattle.mf_numfmt.specs.Sizes.{is_size};
 use mf_text::Text;
 use std::alloc::AllocError;
 
-/// The symbols and the sizes of groups by which a locale writes a number (Unicode TS 35, Part 3, "Number Symbols" and
-/// "Number Patterns"), whose sizes are from 1 to 9.
+/// The symbols and the sizes of groups by which a locale writes a number (Unicode TS 35, Part 3,
+/// "Number Symbols" and "Number Patterns"), whose sizes are from 1 to 9.
 #[derive(Debug, PartialEq, Eq, Drop)]
 pub struct Layout {
     /// Stands between the whole digits and the fraction.

@@ -22,7 +22,8 @@ pub fn text_len(
         .saturating_add(fraction_text_len(layout, fraction_len))
 }
 
-/// The length of the whole digits with their separators in bytes, or `usize::MAX` where it is greater.
+/// The length of the whole digits with their separators in bytes, or `usize::MAX` where it is
+/// greater.
 fn whole_text_len(layout: &Layout, grouped: bool, digits: usize) -> usize
     ensures { (n : ℕ) → result ≡ min
         (length (encode_utf8_all (places_text layout.now grouped n digits))) (2 ^ 64 - 1) }

@@ -14,8 +14,9 @@ use mf_decimal::Shown;
 use mf_text::Text;
 use std::alloc::{AllocError, Global};
 
-/// The text of a number in a layout: its sign, its whole digits in groups, and its fraction (Unicode TS 35, Part 3,
-/// "Number Formats"). At least `min_whole` whole digits are written, from 1 to 21.
+/// The text of a number in a layout: its sign, its whole digits in groups, and its fraction
+/// (Unicode TS 35, Part 3, "Number Formats"). At least `min_whole` whole digits are written, from 1
+/// to 21.
 pub fn text(
     alloc: Global,
     shown: &Shown,

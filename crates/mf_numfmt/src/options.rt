@@ -1,4 +1,5 @@
-/// Which sign is shown (Unicode TS 35, Part 9, the option `signDisplay`). A zero is a number that is shown as zero.
+/// Which sign is shown (Unicode TS 35, Part 9, the option `signDisplay`). A zero is a number that
+/// is shown as zero.
 #[derive(Clone, Copy, PartialEq, Eq, Debug)]
 pub enum Sign {
     /// The minus of a negative number.
@@ -13,7 +14,8 @@ pub enum Sign {
     Never,
 }
 
-/// Where separators stand between groups of whole digits (Unicode TS 35, Part 9, the option `useGrouping`).
+/// Where separators stand between groups of whole digits (Unicode TS 35, Part 9, the option
+/// `useGrouping`).
 #[derive(Clone, Copy, PartialEq, Eq, Debug)]
 pub enum Grouping {
     /// Where as many digits stand before the first one as the layout wants.

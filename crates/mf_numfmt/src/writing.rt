@@ -30,8 +30,8 @@ pub fn push_whole(
     Ok(())
 }
 
-/// The lowest place of the group whose first digit stands just below `place`: the next place down that has a separator
-/// to its right, or 0.
+/// The lowest place of the group whose first digit stands just below `place`: the next place down
+/// that has a separator to its right, or 0.
 fn group_end(layout: &Layout, grouped: bool, place: usize) -> usize
     requires some { 0 < place }
     ensures below { result < place }
@@ -46,8 +46,8 @@ fn group_end(layout: &Layout, grouped: bool, place: usize) -> usize
     primary + (place - 1 - primary) / secondary * secondary
 }
 
-/// The digits at the places from `end` on that are below `place`, and the separator to the right of the lowest of them,
-/// unless that is at the decimal point.
+/// The digits at the places from `end` on that are below `place`, and the separator to the right of
+/// the lowest of them, unless that is at the decimal point.
 fn push_group(
     text: &mut String,
     whole: &Places,

@@ -1,6 +1,6 @@
 //! Declarations, one function a production.
 ghost use Rattle.std.specs.Prelude.{◌≡◌, true, false, Some, None, IfOk, IsErrOf, MatchOption};
-ghost use Rattle.mf_parse.specs.Computed.{begins_declaration, declaration_at, declarations_at, input_at, local_at, local_rest as rest_of_local};
+ghost use Rattle.mf_parse.specs.Computed.{begins_declaration, declaration_at, declarations_at, input_at, local_at, local_rest};
 
 use crate::error::ParseError;
 use crate::expression::{expression, rest_of_expression, variable};
@@ -13,7 +13,8 @@ use std::alloc::Global;
 /// An input declaration behind its word.
 #[tactic(auto, unfolding(crate::specs::Computed::input_at))]
 fn input(alloc: Global, cursor: &mut Cursor) -> Result<Declaration, ParseError>
-    ensures found { IfOk result (λ declaration. input_at cursor.old.left ≡ Some (declaration, cursor.new.left)) }
+    ensures found { IfOk result (λ declaration. input_at cursor.old.left ≡ Some
+        (declaration, cursor.new.left)) }
     ensures none { IsErrOf result ParseError.Syntax → input_at cursor.old.left ≡ None }
 {
     cursor.o();
@@ -27,8 +28,9 @@ fn input(alloc: Global, cursor: &mut Cursor) -> Result<Declaration, ParseError>
 /// `variable o "=" o expression`
 #[tactic(auto, unfolding(crate::specs::Computed::local_rest))]
 fn local_rest(alloc: Global, cursor: &mut Cursor) -> Result<Declaration, ParseError>
-    ensures found { IfOk result (λ declaration. rest_of_local cursor.old.left ≡ Some (declaration, cursor.new.left)) }
-    ensures none { IsErrOf result ParseError.Syntax → rest_of_local cursor.old.left ≡ None }
+    ensures found { IfOk result (λ declaration. local_rest cursor.old.left ≡ Some
+        (declaration, cursor.new.left)) }
+    ensures none { IsErrOf result ParseError.Syntax → local_rest cursor.old.left ≡ None }
 {
     let name = variable(alloc, cursor)?;
     equals(cursor)?;
@@ -39,7 +41,8 @@ fn local_rest(alloc: Global, cursor: &mut Cursor) -> Result<Declaration, ParseEr
 /// A local declaration behind its word.
 #[tactic(auto, unfolding(crate::specs::Computed::local_at))]
 fn local(alloc: Global, cursor: &mut Cursor) -> Result<Declaration, ParseError>
-    ensures found { IfOk result (λ declaration. local_at cursor.old.left ≡ Some (declaration, cursor.new.left)) }
+    ensures found { IfOk result (λ declaration. local_at cursor.old.left ≡ Some
+        (declaration, cursor.new.left)) }
     ensures none { IsErrOf result ParseError.Syntax → local_at cursor.old.left ≡ None }
 {
     if !cursor.s() {
@@ -54,7 +57,8 @@ fn declaration(alloc: Global, cursor: &mut Cursor) -> Result<Option<Declaration>
     ensures found { IfOk result (λ found. MatchOption found
         ((begins_declaration cursor.old.left ≡ false) × (cursor.new.left ≡ cursor.old.left))
         (λ declaration. (begins_declaration cursor.old.left ≡ true) × (declaration_at cursor.old.left ≡ Some (declaration, cursor.new.left)))) }
-    ensures none { IsErrOf result ParseError.Syntax → (begins_declaration cursor.old.left ≡ true) × (declaration_at cursor.old.left ≡ None) }
+    ensures none { IsErrOf result ParseError.Syntax → (begins_declaration cursor.old.left ≡ true) ×
+        (declaration_at cursor.old.left ≡ None) }
 {
     if pass_word(cursor, &['.', 'i', 'n', 'p', 'u', 't']) {
         let declaration = input(alloc, cursor)?;
@@ -70,7 +74,8 @@ fn declaration(alloc: Global, cursor: &mut Cursor) -> Result<Option<Declaration>
 /// `*(declaration o)`
 #[tactic(auto, using(crate::proofs::Bodies::declaration_none, crate::proofs::Gathers::gathered_start))]
 pub fn declarations(alloc: Global, cursor: &mut Cursor) -> Result<Declarations, ParseError>
-    ensures found { IfOk result (λ declarations. declarations_at cursor.old.left ≡ Some (declarations, cursor.new.left)) }
+    ensures found { IfOk result (λ declarations. declarations_at cursor.old.left ≡ Some
+        (declarations, cursor.new.left)) }
     ensures none { IsErrOf result ParseError.Syntax → declarations_at cursor.old.left ≡ None }
 {
     let mut declarations = Declarations::new(alloc);

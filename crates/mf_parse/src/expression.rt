@@ -3,7 +3,7 @@ ghost use Rattle.std.specs.Prelude.{◌≡◌, Some, None, IfOk, IsErrOf};
 ghost use Rattle.std.specs.Option.{option_map};
 ghost use Rattle.mf_lex.specs.Computed.{identifier_at, literal_at, name_at};
 ghost use Rattle.mf_tree.specs.Names.{named};
-ghost use Rattle.mf_parse.specs.Computed.{identifier_of as as_identifier, attribute_at, attribute_value_at, attributes_at, expression_at, function_at, identifier_node_at, inner_expression_at, last_attributes_at, of_function_at, of_literal_at, of_variable_at, option_at, option_value_at, options_at, rest_of_expression_at, spaced_function_at, variable_at};
+ghost use Rattle.mf_parse.specs.Computed.{identifier_of, attribute_at, attribute_value_at, attributes_at, expression_at, function_at, identifier_node_at, inner_expression_at, last_attributes_at, of_function_at, of_literal_at, of_variable_at, option_at, option_value_at, options_at, rest_of_expression_at, spaced_function_at, variable_at};
 
 use crate::error::ParseError;
 use crate::spaces::{
@@ -21,7 +21,8 @@ use std::alloc::{AllocError, Global};
 /// `identifier`
 #[tactic(auto, unfolding(crate::specs::Computed::identifier_node_at))]
 pub fn identifier(alloc: Global, cursor: &mut Cursor) -> Result<Identifier, ParseError>
-    ensures found { IfOk result (λ identifier. identifier_node_at cursor.old.left ≡ Some (identifier, cursor.new.left)) }
+    ensures found { IfOk result (λ identifier. identifier_node_at cursor.old.left ≡ Some
+        (identifier, cursor.new.left)) }
     ensures none { IsErrOf result ParseError.Syntax → identifier_node_at cursor.old.left ≡ None }
 {
     let ident = ident(alloc, cursor)?;
@@ -31,7 +32,8 @@ pub fn identifier(alloc: Global, cursor: &mut Cursor) -> Result<Identifier, Pars
 
 /// `identifier`, as it is spelled.
 fn ident(alloc: Global, cursor: &mut Cursor) -> Result<Ident, ParseError>
-    ensures found { IfOk result (λ ident. identifier_at cursor.old.left ≡ Some (ident, cursor.new.left)) }
+    ensures found { IfOk result (λ ident. identifier_at cursor.old.left ≡ Some
+        (ident, cursor.new.left)) }
     ensures none { IsErrOf result ParseError.Syntax → identifier_at cursor.old.left ≡ None }
 {
     let Some(ident) = cursor.identifier(alloc)? else {
@@ -43,7 +45,7 @@ fn ident(alloc: Global, cursor: &mut Cursor) -> Result<Ident, ParseError>
 /// The node of an identifier.
 #[tactic(auto, using(crate::proofs::Choices::identifier_is))]
 fn identifier_of(alloc: Global, ident: Ident) -> Result<Identifier, AllocError>
-    ensures { IfOk result (λ identifier. identifier ≡ as_identifier ident) }
+    ensures { IfOk result (λ identifier. identifier ≡ identifier_of ident) }
 {
     let name = Name::new(alloc, ident.name)?;
     let namespace = namespace_of(alloc, ident.namespace)?;
@@ -66,7 +68,8 @@ fn namespace_of(alloc: Global, namespace: Option<Text>) -> Result<Option<Name>, 
 /// `variable`
 #[tactic(auto, unfolding(crate::specs::Computed::variable_at))]
 pub fn variable(alloc: Global, cursor: &mut Cursor) -> Result<Name, ParseError>
-    ensures found { IfOk result (λ name. variable_at cursor.old.left ≡ Some (name, cursor.new.left)) }
+    ensures found { IfOk result (λ name. variable_at cursor.old.left ≡ Some
+        (name, cursor.new.left)) }
     ensures none { IsErrOf result ParseError.Syntax → variable_at cursor.old.left ≡ None }
 {
     expect(cursor, '$')?;
@@ -77,7 +80,8 @@ pub fn variable(alloc: Global, cursor: &mut Cursor) -> Result<Name, ParseError>
 
 /// `name`, without its marks.
 fn bare_name(alloc: Global, cursor: &mut Cursor) -> Result<Text, ParseError>
-    ensures found { IfOk result (λ spelled. name_at cursor.old.left ≡ Some (spelled, cursor.new.left)) }
+    ensures found { IfOk result (λ spelled. name_at cursor.old.left ≡ Some
+        (spelled, cursor.new.left)) }
     ensures none { IsErrOf result ParseError.Syntax → name_at cursor.old.left ≡ None }
 {
     let Some(spelled) = cursor.name(alloc)? else {
@@ -88,7 +92,8 @@ fn bare_name(alloc: Global, cursor: &mut Cursor) -> Result<Text, ParseError>
 
 /// `literal`
 pub fn literal(alloc: Global, cursor: &mut Cursor) -> Result<Text, ParseError>
-    ensures found { IfOk result (λ value. literal_at cursor.old.left ≡ Some (value, cursor.new.left)) }
+    ensures found { IfOk result (λ value. literal_at cursor.old.left ≡ Some
+        (value, cursor.new.left)) }
     ensures none { IsErrOf result ParseError.Syntax → literal_at cursor.old.left ≡ None }
 {
     cursor.literal(alloc)?.ok_or(ParseError::Syntax)
@@ -97,7 +102,8 @@ pub fn literal(alloc: Global, cursor: &mut Cursor) -> Result<Text, ParseError>
 /// `literal / variable`
 #[tactic(auto, unfolding(crate::specs::Computed::option_value_at))]
 fn option_value(alloc: Global, cursor: &mut Cursor) -> Result<OptionValue, ParseError>
-    ensures found { IfOk result (λ value. option_value_at cursor.old.left ≡ Some (value, cursor.new.left)) }
+    ensures found { IfOk result (λ value. option_value_at cursor.old.left ≡ Some
+        (value, cursor.new.left)) }
     ensures none { IsErrOf result ParseError.Syntax → option_value_at cursor.old.left ≡ None }
 {
     if is_next(cursor, '$') {
@@ -109,7 +115,8 @@ fn option_value(alloc: Global, cursor: &mut Cursor) -> Result<OptionValue, Parse
 /// `option`
 #[tactic(auto, unfolding(crate::specs::Computed::option_at))]
 fn option(alloc: Global, cursor: &mut Cursor) -> Result<OptionNode, ParseError>
-    ensures found { IfOk result (λ option. option_at cursor.old.left ≡ Some (option, cursor.new.left)) }
+    ensures found { IfOk result (λ option. option_at cursor.old.left ≡ Some
+        (option, cursor.new.left)) }
     ensures none { IsErrOf result ParseError.Syntax → option_at cursor.old.left ≡ None }
 {
     let name = identifier(alloc, cursor)?;
@@ -121,7 +128,8 @@ fn option(alloc: Global, cursor: &mut Cursor) -> Result<OptionNode, ParseError>
 /// `*(s option)`
 #[tactic(auto, using(crate::proofs::Gathers::option_none, crate::proofs::Gathers::gathered_start))]
 pub fn options(alloc: Global, cursor: &mut Cursor) -> Result<OptionNodes, ParseError>
-    ensures found { IfOk result (λ options. options_at cursor.old.left ≡ Some (options, cursor.new.left)) }
+    ensures found { IfOk result (λ options. options_at cursor.old.left ≡ Some
+        (options, cursor.new.left)) }
     ensures none { IsErrOf result ParseError.Syntax → options_at cursor.old.left ≡ None }
 {
     let mut options = OptionNodes::new(alloc);
@@ -135,7 +143,8 @@ pub fn options(alloc: Global, cursor: &mut Cursor) -> Result<OptionNodes, ParseE
 /// `[o "=" o literal]`
 #[tactic(auto, unfolding(crate::specs::Computed::attribute_value_at))]
 fn attribute_value(alloc: Global, cursor: &mut Cursor) -> Result<Option<Text>, ParseError>
-    ensures found { IfOk result (λ value. attribute_value_at cursor.old.left ≡ Some (value, cursor.new.left)) }
+    ensures found { IfOk result (λ value. attribute_value_at cursor.old.left ≡ Some
+        (value, cursor.new.left)) }
     ensures none { IsErrOf result ParseError.Syntax → attribute_value_at cursor.old.left ≡ None }
 {
     let mut ahead = cursor.save();
@@ -151,7 +160,8 @@ fn attribute_value(alloc: Global, cursor: &mut Cursor) -> Result<Option<Text>, P
 /// `attribute`
 #[tactic(auto, unfolding(crate::specs::Computed::attribute_at))]
 fn attribute(alloc: Global, cursor: &mut Cursor) -> Result<Attribute, ParseError>
-    ensures found { IfOk result (λ attribute. attribute_at cursor.old.left ≡ Some (attribute, cursor.new.left)) }
+    ensures found { IfOk result (λ attribute. attribute_at cursor.old.left ≡ Some
+        (attribute, cursor.new.left)) }
     ensures none { IsErrOf result ParseError.Syntax → attribute_at cursor.old.left ≡ None }
 {
     expect(cursor, '@')?;
@@ -163,7 +173,8 @@ fn attribute(alloc: Global, cursor: &mut Cursor) -> Result<Attribute, ParseError
 /// `*(s attribute)`
 #[tactic(auto, using(crate::proofs::Gathers::attribute_none, crate::proofs::Gathers::gathered_start))]
 pub fn attributes(alloc: Global, cursor: &mut Cursor) -> Result<Attributes, ParseError>
-    ensures found { IfOk result (λ attributes. attributes_at cursor.old.left ≡ Some (attributes, cursor.new.left)) }
+    ensures found { IfOk result (λ attributes. attributes_at cursor.old.left ≡ Some
+        (attributes, cursor.new.left)) }
     ensures none { IsErrOf result ParseError.Syntax → attributes_at cursor.old.left ≡ None }
 {
     let mut attributes = Attributes::new(alloc);
@@ -177,7 +188,8 @@ pub fn attributes(alloc: Global, cursor: &mut Cursor) -> Result<Attributes, Pars
 /// `function`
 #[tactic(auto, unfolding(crate::specs::Computed::function_at))]
 fn function(alloc: Global, cursor: &mut Cursor) -> Result<Call, ParseError>
-    ensures found { IfOk result (λ call. function_at cursor.old.left ≡ Some (call, cursor.new.left)) }
+    ensures found { IfOk result (λ call. function_at cursor.old.left ≡ Some
+        (call, cursor.new.left)) }
     ensures none { IsErrOf result ParseError.Syntax → function_at cursor.old.left ≡ None }
 {
     expect(cursor, ':')?;
@@ -189,7 +201,8 @@ fn function(alloc: Global, cursor: &mut Cursor) -> Result<Call, ParseError>
 /// `[s function]`
 #[tactic(auto, unfolding(crate::specs::Computed::spaced_function_at))]
 fn spaced_function(alloc: Global, cursor: &mut Cursor) -> Result<Option<Call>, ParseError>
-    ensures found { IfOk result (λ call. spaced_function_at cursor.old.left ≡ Some (call, cursor.new.left)) }
+    ensures found { IfOk result (λ call. spaced_function_at cursor.old.left ≡ Some
+        (call, cursor.new.left)) }
     ensures none { IsErrOf result ParseError.Syntax → spaced_function_at cursor.old.left ≡ None }
 {
     if !pass_space_before(cursor, ':') {
@@ -202,7 +215,8 @@ fn spaced_function(alloc: Global, cursor: &mut Cursor) -> Result<Option<Call>, P
 /// `*(s attribute) o "}"`
 #[tactic(auto, unfolding(crate::specs::Computed::last_attributes_at))]
 pub fn last_attributes(alloc: Global, cursor: &mut Cursor) -> Result<Attributes, ParseError>
-    ensures found { IfOk result (λ attributes. last_attributes_at cursor.old.left ≡ Some (attributes, cursor.new.left)) }
+    ensures found { IfOk result (λ attributes. last_attributes_at cursor.old.left ≡ Some
+        (attributes, cursor.new.left)) }
     ensures none { IsErrOf result ParseError.Syntax → last_attributes_at cursor.old.left ≡ None }
 {
     let attributes = attributes(alloc, cursor)?;
@@ -217,8 +231,10 @@ pub fn rest_of_expression(
     cursor: &mut Cursor,
     operand: Operand,
 ) -> Result<Expression, ParseError>
-    ensures found { IfOk result (λ expression. rest_of_expression_at operand cursor.old.left ≡ Some (expression, cursor.new.left)) }
-    ensures none { IsErrOf result ParseError.Syntax → rest_of_expression_at operand cursor.old.left ≡ None }
+    ensures found { IfOk result (λ expression. rest_of_expression_at operand cursor.old.left ≡ Some
+        (expression, cursor.new.left)) }
+    ensures none { IsErrOf result ParseError.Syntax → rest_of_expression_at operand cursor.old.left
+        ≡ None }
 {
     let function = spaced_function(alloc, cursor)?;
     let attributes = last_attributes(alloc, cursor)?;
@@ -232,7 +248,8 @@ pub fn rest_of_expression(
 /// `variable [s function] *(s attribute) o "}"`
 #[tactic(auto, unfolding(crate::specs::Computed::of_variable_at))]
 fn of_variable(alloc: Global, cursor: &mut Cursor) -> Result<Expression, ParseError>
-    ensures found { IfOk result (λ expression. of_variable_at cursor.old.left ≡ Some (expression, cursor.new.left)) }
+    ensures found { IfOk result (λ expression. of_variable_at cursor.old.left ≡ Some
+        (expression, cursor.new.left)) }
     ensures none { IsErrOf result ParseError.Syntax → of_variable_at cursor.old.left ≡ None }
 {
     let name = variable(alloc, cursor)?;
@@ -242,7 +259,8 @@ fn of_variable(alloc: Global, cursor: &mut Cursor) -> Result<Expression, ParseEr
 /// `literal [s function] *(s attribute) o "}"`
 #[tactic(auto, unfolding(crate::specs::Computed::of_literal_at))]
 fn of_literal(alloc: Global, cursor: &mut Cursor) -> Result<Expression, ParseError>
-    ensures found { IfOk result (λ expression. of_literal_at cursor.old.left ≡ Some (expression, cursor.new.left)) }
+    ensures found { IfOk result (λ expression. of_literal_at cursor.old.left ≡ Some
+        (expression, cursor.new.left)) }
     ensures none { IsErrOf result ParseError.Syntax → of_literal_at cursor.old.left ≡ None }
 {
     let value = literal(alloc, cursor)?;
@@ -252,7 +270,8 @@ fn of_literal(alloc: Global, cursor: &mut Cursor) -> Result<Expression, ParseErr
 /// `function *(s attribute) o "}"`
 #[tactic(auto, unfolding(crate::specs::Computed::of_function_at))]
 fn of_function(alloc: Global, cursor: &mut Cursor) -> Result<Expression, ParseError>
-    ensures found { IfOk result (λ expression. of_function_at cursor.old.left ≡ Some (expression, cursor.new.left)) }
+    ensures found { IfOk result (λ expression. of_function_at cursor.old.left ≡ Some
+        (expression, cursor.new.left)) }
     ensures none { IsErrOf result ParseError.Syntax → of_function_at cursor.old.left ≡ None }
 {
     let call = function(alloc, cursor)?;
@@ -267,7 +286,8 @@ fn of_function(alloc: Global, cursor: &mut Cursor) -> Result<Expression, ParseEr
 /// An expression behind its brace and the space.
 #[tactic(auto, unfolding(crate::specs::Computed::inner_expression_at))]
 pub fn inner_expression(alloc: Global, cursor: &mut Cursor) -> Result<Expression, ParseError>
-    ensures found { IfOk result (λ expression. inner_expression_at cursor.old.left ≡ Some (expression, cursor.new.left)) }
+    ensures found { IfOk result (λ expression. inner_expression_at cursor.old.left ≡ Some
+        (expression, cursor.new.left)) }
     ensures none { IsErrOf result ParseError.Syntax → inner_expression_at cursor.old.left ≡ None }
 {
     if is_next(cursor, '$') {
@@ -282,7 +302,8 @@ pub fn inner_expression(alloc: Global, cursor: &mut Cursor) -> Result<Expression
 /// `expression`
 #[tactic(auto, unfolding(crate::specs::Computed::expression_at))]
 pub fn expression(alloc: Global, cursor: &mut Cursor) -> Result<Expression, ParseError>
-    ensures found { IfOk result (λ expression. expression_at cursor.old.left ≡ Some (expression, cursor.new.left)) }
+    ensures found { IfOk result (λ expression. expression_at cursor.old.left ≡ Some
+        (expression, cursor.new.left)) }
     ensures none { IsErrOf result ParseError.Syntax → expression_at cursor.old.left ≡ None }
 {
     opening_brace(cursor)?;

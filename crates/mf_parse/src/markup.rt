@@ -28,7 +28,8 @@ fn form(cursor: &mut Cursor) -> Result<Form, ParseError>
 /// Markup behind its `#`.
 #[tactic(auto, unfolding(crate::specs::Computed::opening_at))]
 fn opening(alloc: Global, cursor: &mut Cursor) -> Result<Markup, ParseError>
-    ensures found { IfOk result (λ markup. opening_at cursor.old.left ≡ Some (markup, cursor.new.left)) }
+    ensures found { IfOk result (λ markup. opening_at cursor.old.left ≡ Some
+        (markup, cursor.new.left)) }
     ensures none { IsErrOf result ParseError.Syntax → opening_at cursor.old.left ≡ None }
 {
     let name = identifier(alloc, cursor)?;
@@ -46,7 +47,8 @@ fn opening(alloc: Global, cursor: &mut Cursor) -> Result<Markup, ParseError>
 /// Markup behind its `/`.
 #[tactic(auto, unfolding(crate::specs::Computed::closing_at))]
 fn closing(alloc: Global, cursor: &mut Cursor) -> Result<Markup, ParseError>
-    ensures found { IfOk result (λ markup. closing_at cursor.old.left ≡ Some (markup, cursor.new.left)) }
+    ensures found { IfOk result (λ markup. closing_at cursor.old.left ≡ Some
+        (markup, cursor.new.left)) }
     ensures none { IsErrOf result ParseError.Syntax → closing_at cursor.old.left ≡ None }
 {
     let name = identifier(alloc, cursor)?;
@@ -63,7 +65,8 @@ fn closing(alloc: Global, cursor: &mut Cursor) -> Result<Markup, ParseError>
 /// A placeholder behind its brace and the space.
 #[tactic(auto, unfolding(crate::specs::Computed::inner_placeholder_at))]
 fn inner_placeholder(alloc: Global, cursor: &mut Cursor) -> Result<Piece, ParseError>
-    ensures found { IfOk result (λ piece. inner_placeholder_at cursor.old.left ≡ Some (piece, cursor.new.left)) }
+    ensures found { IfOk result (λ piece. inner_placeholder_at cursor.old.left ≡ Some
+        (piece, cursor.new.left)) }
     ensures none { IsErrOf result ParseError.Syntax → inner_placeholder_at cursor.old.left ≡ None }
 {
     if cursor.one('#') {
@@ -78,7 +81,8 @@ fn inner_placeholder(alloc: Global, cursor: &mut Cursor) -> Result<Piece, ParseE
 /// `placeholder`
 #[tactic(auto, unfolding(crate::specs::Computed::placeholder_at))]
 pub fn placeholder(alloc: Global, cursor: &mut Cursor) -> Result<Piece, ParseError>
-    ensures found { IfOk result (λ piece. placeholder_at cursor.old.left ≡ Some (piece, cursor.new.left)) }
+    ensures found { IfOk result (λ piece. placeholder_at cursor.old.left ≡ Some
+        (piece, cursor.new.left)) }
     ensures none { IsErrOf result ParseError.Syntax → placeholder_at cursor.old.left ≡ None }
 {
     opening_brace(cursor)?;

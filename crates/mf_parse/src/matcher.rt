@@ -56,7 +56,8 @@ fn keys(alloc: Global, cursor: &mut Cursor) -> Result<Keys, ParseError>
 /// `variant`
 #[tactic(auto, unfolding(crate::specs::Computed::variant_at))]
 fn variant(alloc: Global, cursor: &mut Cursor) -> Result<Variant, ParseError>
-    ensures found { IfOk result (λ variant. variant_at cursor.old.left ≡ Some (variant, cursor.new.left)) }
+    ensures found { IfOk result (λ variant. variant_at cursor.old.left ≡ Some
+        (variant, cursor.new.left)) }
     ensures none { IsErrOf result ParseError.Syntax → variant_at cursor.old.left ≡ None }
 {
     let keys = keys(alloc, cursor)?;
@@ -83,7 +84,8 @@ fn pass_space_before_variant(cursor: &mut Cursor) -> bool
 /// `variant *(o variant)`
 #[tactic(auto, using(crate::proofs::Chains::variants_none_1, crate::proofs::Gathers::variant_none))]
 fn variants(alloc: Global, cursor: &mut Cursor) -> Result<Variants, ParseError>
-    ensures found { IfOk result (λ variants. variants_at cursor.old.left ≡ Some (variants, cursor.new.left)) }
+    ensures found { IfOk result (λ variants. variants_at cursor.old.left ≡ Some
+        (variants, cursor.new.left)) }
     ensures none { IsErrOf result ParseError.Syntax → variants_at cursor.old.left ≡ None }
 {
     let first = variant(alloc, cursor)?;
@@ -99,7 +101,8 @@ fn variants(alloc: Global, cursor: &mut Cursor) -> Result<Variants, ParseError>
 /// `*(s variable)`
 #[tactic(auto, using(crate::proofs::Gathers::selector_none, crate::proofs::Gathers::gathered_start))]
 fn selectors(alloc: Global, cursor: &mut Cursor) -> Result<Names, ParseError>
-    ensures found { IfOk result (λ selectors. selectors_at cursor.old.left ≡ Some (selectors, cursor.new.left)) }
+    ensures found { IfOk result (λ selectors. selectors_at cursor.old.left ≡ Some
+        (selectors, cursor.new.left)) }
     ensures none { IsErrOf result ParseError.Syntax → selectors_at cursor.old.left ≡ None }
 {
     let mut selectors = Names::new(alloc);
@@ -113,7 +116,8 @@ fn selectors(alloc: Global, cursor: &mut Cursor) -> Result<Names, ParseError>
 /// A matcher behind its word.
 #[tactic(auto, unfolding(crate::specs::Computed::matcher_at))]
 pub fn matcher(alloc: Global, cursor: &mut Cursor) -> Result<Body, ParseError>
-    ensures found { IfOk result (λ body. matcher_at cursor.old.left ≡ Some (body, cursor.new.left)) }
+    ensures found { IfOk result (λ body. matcher_at cursor.old.left ≡ Some
+        (body, cursor.new.left)) }
     ensures none { IsErrOf result ParseError.Syntax → matcher_at cursor.old.left ≡ None }
 {
     let selectors = selectors(alloc, cursor)?;

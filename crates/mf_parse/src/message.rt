@@ -2,7 +2,7 @@
 ghost use Rattle.std.specs.Prelude.{◌≡◌, ◌≢◌, [], Some, None, chars, IfOk, IsErrOf, MatchBool};
 ghost use Rattle.mf_tree.specs.Grammar.{SpellsMessage};
 ghost use Rattle.mf_parse.specs.Parsing.{IsSource};
-ghost use Rattle.mf_parse.specs.Computed.{begins_simply as starts_simply, body_at, complex_at, message_of, simple_at};
+ghost use Rattle.mf_parse.specs.Computed.{begins_simply, body_at, complex_at, message_of, simple_at};
 
 use crate::declaration::declarations;
 use crate::error::ParseError;
@@ -89,7 +89,7 @@ fn complex_message(alloc: Global, cursor: &mut Cursor) -> Result<Option<Message>
 /// Whether a simple message may begin so, as any may but white space alone before a full stop.
 #[tactic(auto, using(crate::proofs::Whole::white_passed, crate::proofs::Whole::first_character))]
 fn begins_simply(cursor: &Cursor) -> bool
-    ensures { result ≡ starts_simply cursor.now.left }
+    ensures { result ≡ begins_simply cursor.now.left }
 {
     let mut ahead = cursor.save();
     while let Some(c) = ahead.next() {

@@ -1,7 +1,7 @@
 //! Spaces, and the characters that they stand before.
 ghost use Rattle.std.specs.Prelude.{◌≡◌, ◌==◌, true, false, Some, None, IsErrOf, MatchBool, OnOk};
-ghost use Rattle.mf_text.specs.Characters.{is_name_start as has_name_start};
-ghost use Rattle.mf_lex.specs.Computed.{after_space, is_next as comes_next, one_at};
+ghost use Rattle.mf_text.specs.Characters.{is_name_start};
+ghost use Rattle.mf_lex.specs.Computed.{after_space, is_next, one_at};
 ghost use Rattle.mf_parse.specs.Computed.{behind_brace, behind_equals, inside, is_at, is_spaced};
 
 use crate::error::ParseError;
@@ -35,8 +35,8 @@ pub fn pass_space_before(cursor: &mut Cursor, sign: char) -> bool
 /// Passes the space before a name, where there is white space in it.
 pub fn pass_space_before_name(cursor: &mut Cursor) -> bool
     ensures { MatchBool result
-        ((is_spaced has_name_start cursor.old.left ≡ true) × (cursor.new.left ≡ after_space cursor.old.left))
-        ((is_spaced has_name_start cursor.old.left ≡ false) × (cursor.new.left ≡ cursor.old.left)) }
+        ((is_spaced is_name_start cursor.old.left ≡ true) × (cursor.new.left ≡ after_space cursor.old.left))
+        ((is_spaced is_name_start cursor.old.left ≡ false) × (cursor.new.left ≡ cursor.old.left)) }
 {
     let mut ahead = cursor.save();
     if ahead.s() && is_name_next(&ahead) {
@@ -48,7 +48,7 @@ pub fn pass_space_before_name(cursor: &mut Cursor) -> bool
 
 /// Whether a character that a name may begin with is next.
 fn is_name_next(cursor: &Cursor) -> bool
-    ensures { result ≡ comes_next has_name_start cursor.now.left }
+    ensures { result ≡ is_next is_name_start cursor.now.left }
 {
     match cursor.peek() {
         Some(c) => is_name_start(c),

@@ -8,7 +8,9 @@ use std::alloc::{AllocError, Global};
 /// The most parts that a part and its marks are.
 const MOST_PARTS: usize = 3;
 
-/// The parts of a message of this direction, each between the marks that it gets. No part is copied.
+/// The parts of a message of this direction, each between the marks that it gets. No part is
+/// copied.
+/// See DECISIONS 8.
 pub fn isolate(alloc: Global, parts: Parts, message: Direction) -> Result<Parts, AllocError>
     ensures { IfOk result (λ done. done ≡ isolated message parts) }
 {
@@ -20,7 +22,9 @@ pub fn isolate(alloc: Global, parts: Parts, message: Direction) -> Result<Parts,
     Ok(done)
 }
 
-/// The parts with one more at the end, between the marks that it gets in a message of this direction.
+/// The parts with one more at the end, between the marks that it gets in a message of this
+/// direction.
+/// See DECISIONS 8.
 pub fn push_isolated(parts: Parts, part: Part, message: Direction) -> Result<Parts, AllocError>
     ensures { IfOk result (λ longer. longer ≡ parts ++ isolated_part message part) }
 {
@@ -28,7 +32,8 @@ pub fn push_isolated(parts: Parts, part: Part, message: Direction) -> Result<Par
     push_between(parts, mark, part)
 }
 
-/// The mark before a part, if it gets marks: a fallback has unknown direction, and what is no value gets none.
+/// The mark before a part, if it gets marks: a fallback has unknown direction, and what is no value
+/// gets none.
 fn part_opening(part: &Part, message: Direction) -> Option<char>
     ensures { result ≡ part_opening message part.now }
 {
@@ -53,7 +58,8 @@ fn opening(message: Direction, dir: Direction, forced: bool) -> Option<char>
     }
 }
 
-/// The parts with one more at the end, after a mark and before the mark that ends its isolation, if there is one.
+/// The parts with one more at the end, after a mark and before the mark that ends its isolation, if
+/// there is one.
 fn push_between(parts: Parts, mark: Option<char>, part: Part) -> Result<Parts, AllocError>
     ensures { IfOk result (λ longer. longer ≡ parts ++ between mark part) }
 {

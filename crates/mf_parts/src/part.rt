@@ -24,7 +24,8 @@ pub enum Part {
         forced: bool,
         id: Option<Text>,
     },
-    /// Markup, which shows nothing. Its name and those of its options are identifiers in Normalization Form C.
+    /// Markup, which shows nothing. Its name and those of its options are identifiers in
+    /// Normalization Form C.
     Markup {
         form: Form,
         name: Text,

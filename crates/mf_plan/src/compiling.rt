@@ -15,8 +15,9 @@ use std::alloc::{AllocError, Global};
 const MOST_DECLARATIONS: usize = 256;
 
 impl Plan {
-    /// What a source compiles to: `syntax-error` where it spells no message, `limit` where its message has more than
-    /// 256 declarations, else the message's errors, or the message where it has none.
+    /// What a source compiles to: `syntax-error` where it spells no message, `limit` where its
+    /// message has more than 256 declarations, else the message's errors, or the message where it
+    /// has none.
     #[tactic(auto, using(crate::proofs::Computed::plan_compiled, crate::proofs::Computed::plan_node))]
     pub fn of(alloc: Global, source: &str) -> Result<Plan, AllocError>
         ensures compiled { IfOk result (λ plan. CompilesTo (chars source.now) plan) }

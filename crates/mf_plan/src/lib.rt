@@ -1,4 +1,5 @@
-//! What the source of a message compiles to: the message that it spells, or the errors that make it invalid.
+//! What the source of a message compiles to: the message that it spells, or the errors that make it
+//! invalid.
 //!
 //! Source: Unicode TS 35, Part 9, "Syntax Errors" and "Data Model Errors".
 #![tactic(auto)]

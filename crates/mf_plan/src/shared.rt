@@ -8,8 +8,9 @@ use mf_flight::{Spent, Ticket};
 use std::alloc::{AllocError, Global};
 use std::sync::Arc;
 
-/// Compiles the source of the message that a ticket is for, to a plan that is shared, and spends the ticket. Where that
-/// finds no memory, the ticket comes back.
+/// Compiles the source of the message that a ticket is for, to a plan that is shared, and spends
+/// the ticket. Where that finds no memory, the ticket comes back.
+/// See DECISIONS 49.
 pub fn compile(
     alloc: Global,
     ticket: Ticket,

@@ -8,7 +8,8 @@ use crate::operands::Operands;
 use crate::rule::{AndPart, Category, Condition, Item, Items, Relation, Rules};
 use mf_decimal::Shown;
 
-/// The category of a shown number: the keyword of the first rule whose condition holds, else `other`.
+/// The category of a shown number: the keyword of the first rule whose condition holds, else
+/// `other`.
 ///
 /// It takes no memory.
 pub fn category(rules: &Rules, shown: &Shown) -> Category

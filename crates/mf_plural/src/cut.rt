@@ -4,7 +4,7 @@ ghost use Rattle.std.specs.Prelude.{◌≡◌, ◌<◌, ◌∷◌, ◌==◌, len
 ghost use Rattle.std.specs.List.{list_all, position};
 ghost use Rattle.std.specs.Option.{option_copied};
 ghost use Rattle.mf_plural.specs.Cuts.{between_rest};
-ghost use Rattle.mf_plural.specs.Grammar.{before_samples as text_before_samples, between, rule_texts, separates, is_white as is_white_byte};
+ghost use Rattle.mf_plural.specs.Grammar.{before_samples, between, rule_texts, separates, is_white};
 
 use crate::lexeme::is_white;
 use crate::token::{Separator, Token};
@@ -37,14 +37,14 @@ fn place(wanted: u8, text: &[u8]) -> Option<usize>
 
 /// Whether a text is white space alone.
 pub fn is_blank(text: &[u8]) -> bool
-    ensures { result ≡ list_all is_white_byte text.now }
+    ensures { result ≡ list_all is_white text.now }
 {
     text.iter().all(|byte| is_white(*byte))
 }
 
 /// The text of the first rule, and what follows it.
 pub fn first_rule(text: &[u8]) -> (&[u8], &[u8])
-    requires { list_all is_white_byte text.now ≡ false }
+    requires { list_all is_white text.now ≡ false }
     ensures texts { rule_texts text.now ≡ result.0.now ∷ rule_texts result.1.now }
     ensures shorter { length result.1.now < length text.now }
 {
@@ -56,7 +56,7 @@ pub fn first_rule(text: &[u8]) -> (&[u8], &[u8])
 
 /// A rule's text without its samples.
 pub fn before_samples(text: &[u8]) -> &[u8]
-    ensures { result.now ≡ text_before_samples text.now }
+    ensures { result.now ≡ before_samples text.now }
 {
     match place(b'@', text) {
         Some(start) => &text[..start],

@@ -18,8 +18,8 @@ pub fn is_numbered_once()
     ensures { IsNumberedOnce }
 {}
 
-/// The function `rules_of` of the definitions gives rules exactly where the text spells them, and a number exactly where the
-/// first bad rule has it.
+/// The function `rules_of` of the definitions gives rules exactly where the text spells them, and a
+/// number exactly where the first bad rule has it.
 pub fn rules_are_computed()
     ensures rules { AreRulesComputed }
     ensures number { IsNumberComputed }

@@ -1,7 +1,8 @@
 //! Plural rules: read from their texts, and the category that a shown number has by them.
 //!
 //! The rules and the operands are those of
-//! [Unicode TS 35, Part 3](https://www.unicode.org/reports/tr35/tr35-numbers.html#Language_Plural_Rules), "Plural rules
+//! [Unicode TS 35, Part
+//! 3](https://www.unicode.org/reports/tr35/tr35-numbers.html#Language_Plural_Rules), "Plural rules
 //! syntax" and "Operands".
 #![tactic(auto)]
 

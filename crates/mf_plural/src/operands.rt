@@ -6,8 +6,8 @@ ghost use Rattle.mf_plural.specs.Operands.{operands_of, trimmed as value_trimmed
 use mf_decimal::Shown;
 use std::marker::Model;
 
-/// The operands of a shown number: its whole part, how many fraction digits it has and what they write, and the same of
-/// those without trailing zeros.
+/// The operands of a shown number: its whole part, how many fraction digits it has and what they
+/// write, and the same of those without trailing zeros.
 #[derive(Drop)]
 pub struct Operands {
     pub whole: u128,

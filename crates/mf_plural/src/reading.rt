@@ -1,7 +1,7 @@
 //! Rules read from their text.
 
 ghost use Rattle.std.specs.Prelude.{◌≡◌, ◌+◌, ◌≤◌, length, IfErr, IfOk, Ok, Err};
-ghost use Rattle.mf_plural.specs.Keywords.{has_keyword as keyword_is_among, is_same as same_category};
+ghost use Rattle.mf_plural.specs.Keywords.{has_keyword, is_same};
 ghost use Rattle.mf_plural.specs.Refusals.{IfBadRule};
 ghost use Rattle.mf_plural.specs.Grammar.{IsFirstBad, SpellsRules};
 ghost use Rattle.mf_plural.specs.Computed.{rules_of};
@@ -19,8 +19,8 @@ use std::alloc::{AllocError, Global};
 /// # Errors
 ///
 /// `BadRule` with the number of the first rule that is none: it isn't of the form, its keyword stood in an earlier rule,
-/// it is a rule for `other` with a condition or for another keyword without one, it takes a remainder by zero, or a range's
-/// first value is above its last. `OutOfMemory`.
+/// it is a rule for `other` with a condition or for another keyword without one, it takes a
+/// remainder by zero, or a range's first value is above its last. `OutOfMemory`.
 pub fn read_rules(alloc: Global, text: &str) -> Result<Rules, RuleError>
     ensures spelled { IfOk result (λ rules. SpellsRules text.now rules) }
     ensures bad { IfErr result (IfBadRule (IsFirstBad text.now)) }
@@ -57,14 +57,14 @@ fn new_rule(alloc: Global, earlier: &[Rule], text: &[u8]) -> Result<Option<Rule>
 
 // Whether one of the rules has a keyword.
 fn has_keyword(rules: &[Rule], keyword: Category) -> bool
-    ensures { result ≡ keyword_is_among keyword rules.now }
+    ensures { result ≡ has_keyword keyword rules.now }
 {
     rules.iter().any(|rule| is_same(keyword, rule.keyword))
 }
 
 // Whether two categories are one.
 fn is_same(category: Category, other: Category) -> bool
-    ensures { result ≡ same_category category other }
+    ensures { result ≡ is_same category other }
 {
     category == other
 }

@@ -17,7 +17,8 @@ pub enum Category {
 }
 
 impl Category {
-    /// The keyword by which rules and the keys of messages name it: `zero`, `one`, `two`, `few`, `many` or `other`.
+    /// The keyword by which rules and the keys of messages name it: `zero`, `one`, `two`, `few`,
+    /// `many` or `other`.
     pub fn as_str(&self) -> &'static str
         ensures { result.now ≡ keyword_text self.now }
     {

@@ -8,7 +8,8 @@ use crate::operands::Operands;
 use crate::rule::Operand;
 
 impl Operands {
-    /// The whole number that an operand's value is, or its remainder by a modulus, if that has no fraction.
+    /// The whole number that an operand's value is, or its remainder by a modulus, if that has no
+    /// fraction.
     pub fn whole_value(&self, operand: Operand, modulus: Option<u64>) -> Option<u128>
         ensures { result
             ≡ choice.whole_of (choice.remainder modulus (choice.value_of self.now operand)) }

@@ -1,6 +1,6 @@
 //! Characters, escaped where they must be, and literals, quoted where they must be.
 ghost use Rattle.std.specs.Prelude.{◌≡◌, ◌++◌, chars, OnOk};
-ghost use Rattle.mf_text.specs.Grammar.{is_unquoted as has_unquoted_form};
+ghost use Rattle.mf_text.specs.Grammar.{is_unquoted};
 ghost use Rattle.mf_tree.specs.Canonical.{escaped, escaped_in_quotes, escaped_in_text, literal_source, quoted_source, text_source};
 
 use mf_text::{Text, is_name_char};
@@ -37,7 +37,7 @@ pub fn push_literal(out: &mut Text, value: &Text) -> Result<(), AllocError>
 
 /// Whether a literal can stand without quotes.
 fn is_unquoted(value: &str) -> bool
-    ensures { result ≡ has_unquoted_form (chars value.now) }
+    ensures { result ≡ is_unquoted (chars value.now) }
 {
     !value.is_empty() && value.chars().all(|c| is_name_char(c))
 }

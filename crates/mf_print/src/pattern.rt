@@ -1,6 +1,6 @@
 //! Patterns, and the markup in them.
 ghost use Rattle.std.specs.Prelude.{◌≡◌, ◌++◌, chars, OnOk};
-ghost use Rattle.mf_tree.specs.Canonical.{begins_with_full_stop as has_full_stop_first, closing_source, markup_source, must_be_quoted as is_quoted_always, opening_source, pattern_source, piece_source, quoted_pattern_source};
+ghost use Rattle.mf_tree.specs.Canonical.{begins_with_full_stop, closing_source, markup_source, must_be_quoted, opening_source, pattern_source, piece_source, quoted_pattern_source};
 
 use crate::expression::{push_attributes, push_expression, push_identifier, push_options};
 use crate::literal::push_text;
@@ -66,10 +66,10 @@ fn closing(form: Form) -> &'static str
     }
 }
 
-/// Whether a pattern stands in braces also where it is a message of its own: where its first piece is a text that
-/// begins with a full stop behind any white space and marks of direction.
+/// Whether a pattern stands in braces also where it is a message of its own: where its first piece
+/// is a text that begins with a full stop behind any white space and marks of direction.
 pub fn must_be_quoted(pattern: &Pattern) -> bool
-    ensures { result ≡ is_quoted_always pattern.now }
+    ensures { result ≡ must_be_quoted pattern.now }
 {
     match pattern.get(0) {
         Some(Piece::Text(text)) => begins_with_full_stop(text.as_str()),
@@ -78,7 +78,7 @@ pub fn must_be_quoted(pattern: &Pattern) -> bool
 }
 
 fn begins_with_full_stop(text: &str) -> bool
-    ensures { result ≡ has_full_stop_first (chars text.now) }
+    ensures { result ≡ begins_with_full_stop (chars text.now) }
 {
     match text.chars().find(|c| !is_ws(*c) && !is_bidi(*c)) {
         Some(c) => c == '.',

@@ -1,4 +1,5 @@
-//! Messages formatted: the parts that a message of an edition has for the arguments of a request, and its errors.
+//! Messages formatted: the parts that a message of an edition has for the arguments of a request,
+//! and its errors.
 //!
 //! Source: Unicode TS 35, Part 9, "Formatting".
 #![tactic(auto)]

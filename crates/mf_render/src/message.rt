@@ -1,5 +1,5 @@
 //! A message formatted.
-ghost use Rattle.std.specs.Prelude.{◌≡◌, IfOk, length};
+ghost use Rattle.std.specs.Prelude.{◌≡◌, IfOk};
 ghost use Rattle.mf_answer.specs.Messages as messages;
 ghost use Rattle.mf_answer.specs.Messages.{ShowsMessage};
 ghost use Rattle.mf_render.specs.Showing.{shown_of, CanShow, Finds};
@@ -26,7 +26,8 @@ pub struct Formatted {
     pub faults: Faults,
 }
 
-/// A message without check errors, formatted with a locale record and functions for the arguments of a request.
+/// A message without check errors, formatted with a locale record and functions for the arguments
+/// of a request.
 pub fn format_message<F: Functions>(
     alloc: Global,
     functions: &F,
@@ -58,7 +59,8 @@ fn chosen_pattern<'a, F: Functions>(
     requires can { CanShow body.now }
     requires tells { TellsKeys (F.meaning functions.now).rank }
     requires gathers { Gathers (F.meaning functions.now) scope.old no_calls }
-    ensures { IfOk result (λ pattern. Finds (F.meaning functions.now) scope.old scope.new body.now pattern.now) }
+    ensures { IfOk result (λ pattern. Finds
+        (F.meaning functions.now) scope.old scope.new body.now pattern.now) }
 {
     match body {
         Body::Pattern(pattern) => Ok(pattern),
@@ -78,7 +80,8 @@ pub fn format_invalid(
     record: &LocaleRecord,
     faults: &Faults,
 ) -> Result<Formatted, AllocError>
-    ensures { IfOk result (λ formatted. shown_of formatted ≡ messages.shown_invalid «record».now faults.now) }
+    ensures { IfOk result (λ formatted. shown_of formatted
+        ≡ messages.shown_invalid «record».now faults.now) }
 {
     let source = replacement(alloc)?;
     let parts = push_isolated(Parts::new(alloc), Part::Fallback { source }, record.dir)?;

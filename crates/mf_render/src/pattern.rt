@@ -21,7 +21,8 @@ pub fn pattern_parts<'a, F: Functions>(
     record: &LocaleRecord,
     pattern: &'a Pattern,
 ) -> Result<Parts, AllocError>
-    ensures { IfOk result (GivesParts «record».now (F.meaning functions.now) scope.old scope.new pattern.now) }
+    ensures { IfOk result (GivesParts «record».now
+        (F.meaning functions.now) scope.old scope.new pattern.now) }
 {
     let mut parts = Parts::with_capacity(alloc, most_parts(pattern.as_slice()))?;
     for piece in pattern.as_slice() {
@@ -31,8 +32,9 @@ pub fn pattern_parts<'a, F: Functions>(
     Ok(parts)
 }
 
-/// The most parts that the pieces of a pattern have: a text has no marks. It is room, and no more than that, since a list that
-/// is longer than a kilobyte comes from a slower part of the C library's memory.
+/// The most parts that the pieces of a pattern have: a text has no marks. It is room, and no more
+/// than that, since a list that is longer than a kilobyte comes from a slower part of the C
+/// library's memory.
 fn most_parts(pieces: &[Piece]) -> usize {
     let mut parts = pieces.len();
     for piece in pieces {
@@ -51,7 +53,8 @@ fn piece_part<'a, F: Functions>(
     record: &LocaleRecord,
     piece: &'a Piece,
 ) -> Result<Part, AllocError>
-    ensures { IfOk result (GivesPart «record».now (F.meaning functions.now) scope.old scope.new piece.now) }
+    ensures { IfOk result (GivesPart «record».now
+        (F.meaning functions.now) scope.old scope.new piece.now) }
 {
     match piece {
         Piece::Text(text) => Ok(Part::Text(text.clone()?)),

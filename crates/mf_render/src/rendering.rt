@@ -19,11 +19,13 @@ use std::alloc::{AllocError, Global};
 /// The most bytes that the text of a formatted message may have.
 const LONGEST_TEXT: u64 = 16_777_216;
 
-/// A message of an edition under this tag, formatted with the arguments of a request: the plan is that of its source.
+/// A message of an edition under this tag, formatted with the arguments of a request: the plan is
+/// that of its source.
 ///
-/// It has the parts that its pieces come to, those of the chosen variant where it is a matcher, and the errors that arose; a
-/// message that isn't valid is one fallback, and its errors are those that make it invalid. [`RenderError::TooLong`] comes
-/// where its text has more than 16,777,216 bytes.
+/// It has the parts that its pieces come to, those of the chosen variant where it is a matcher, and
+/// the errors that arose; a message that isn't valid is one fallback, and its errors are those that
+/// make it invalid. [`RenderError::TooLong`] comes where its text has more than 16,777,216 bytes.
+/// See DECISIONS 138.
 pub fn render(
     alloc: Global,
     plan: &Plan,
@@ -32,7 +34,8 @@ pub fn render(
     arguments: &Arguments,
 ) -> Result<Formatted, RenderError>
     requires { IsPlan plan.now }
-    ensures ok { IfOk result (λ formatted. Renders edition.now tag.now arguments.now plan.now (shown_of formatted)) }
+    ensures ok { IfOk result (λ formatted. Renders edition.now tag.now arguments.now plan.now
+        (shown_of formatted)) }
     ensures fits { IfOk result (λ formatted. IsTrue (is_text_size formatted.parts)) }
     ensures refused { IfErr result (IsRefusal edition.now tag.now arguments.now plan.now) }
 {

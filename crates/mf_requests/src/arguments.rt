@@ -47,7 +47,8 @@ fn argued_number(number: u64) -> Argued
     }
 }
 
-/// The whole number that a number is, where it has no sign, no fraction and no exponent, and 64 bits hold it.
+/// The whole number that a number is, where it has no sign, no fraction and no exponent, and 64
+/// bits hold it.
 pub(crate) fn whole_number(text: &str) -> Result<u64, Unread>
     ensures { IfOk result (λ number. number_of text.now ≡ Some (unsigned number)) }
 {

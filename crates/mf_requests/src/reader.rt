@@ -7,7 +7,8 @@ use json::{Reader, Scratch};
 use mf_wire::{Request, WireError, read_request};
 use std::alloc::Global;
 
-/// Reads requests, and keeps the memory that reading takes from line to line: as many bytes as the longest line had.
+/// Reads requests, and keeps the memory that reading takes from line to line: as many bytes as the
+/// longest line had.
 #[derive(Drop)]
 pub struct RequestReader {
     scratch: Scratch,

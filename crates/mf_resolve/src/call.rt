@@ -1,6 +1,6 @@
 //! Calls of functions.
 
-ghost use Rattle.std.specs.Prelude.{◌≡◌, ◌<◌, ◌≤◌, ◌++◌, ℕ, Some, length, slice_get, IfOk, OnOk};
+ghost use Rattle.std.specs.Prelude.{◌≡◌, ◌<◌, ◌≤◌, ◌++◌, ℕ, Some, length, IfOk, OnOk};
 ghost use Rattle.mf_resolve.specs.Refusals.{AreMarks, refused_errors};
 ghost use Rattle.mf_resolve.specs.Resolving.{Ends, IsHeld, ResolvesCall, operand_of};
 ghost use Rattle.mf_value.specs.Meaning.{IsNoFallback};

@@ -1,7 +1,7 @@
 //! Expressions, step by step.
 
 ghost use Rattle.std.specs.Prelude.{◌≡◌, ◌≤◌, ℕ, [], None, length, IfOk};
-ghost use Rattle.std.specs.Option.{option_copied, option_map};
+ghost use Rattle.std.specs.Option.{option_copied};
 ghost use Rattle.mf_resolve.specs.Resolving as resolving;
 ghost use Rattle.mf_resolve.specs.Resolving.{FindsOperand, IsHeld, ResolvesExpression, operand_of};
 ghost use Rattle.mf_value.specs.Traces as traces;
@@ -25,8 +25,8 @@ pub enum Resolved {
 }
 
 impl<'a> Scope<'a> {
-    /// The value of an expression: its operand is resolved where the declarations before a place count, its options where
-    /// those before a place do.
+    /// The value of an expression: its operand is resolved where the declarations before a place
+    /// count, its options where those before a place do.
     #[cycle(resolving)]
     pub fn expression_under<F: Functions>(
         &mut self,

@@ -1,7 +1,8 @@
 //! Resolution: what the expressions and variables of a message come to, and the errors on the way.
 //!
-//! A [`Scope`] is the message's declarations with the arguments of a request. A declaration is resolved where it is used
-//! first; one that isn't used gives no error. Source: Unicode TS 35, Part 9, "Expression and Markup Resolution".
+//! A [`Scope`] is the message's declarations with the arguments of a request. A declaration is
+//! resolved where it is used first; one that isn't used gives no error. Source: Unicode TS 35, Part
+//! 9, "Expression and Markup Resolution".
 #![tactic(auto)]
 
 mod call;

@@ -8,12 +8,12 @@ use mf_text::{List, Pair, Pairs, Text};
 use mf_value::Options;
 use std::alloc::{AllocError, Global};
 
-/// What markup comes to: nothing is shown for it, and it stands beside what is shown (Unicode TS 35, Part 9,
-/// "Markup Resolution").
+/// What markup comes to: nothing is shown for it, and it stands beside what is shown (Unicode TS
+/// 35, Part 9, "Markup Resolution").
 #[derive(Debug, Drop)]
 pub struct MarkupValue {
-    /// Its options by their identifiers, with their option texts, in the order of the source: those that aren't refused, but
-    /// for `u:id`.
+    /// Its options by their identifiers, with their option texts, in the order of the source: those
+    /// that aren't refused, but for `u:id`.
     pub options: Pairs,
     /// The id that `u:id` gives its part.
     pub id: Option<Text>,

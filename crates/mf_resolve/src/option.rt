@@ -6,7 +6,7 @@ ghost use Rattle.mf_resolve.specs.Resolving.{FindsOption, ResolvesOptions};
 ghost use Rattle.mf_resolve.specs.Sources.{IsTextOf};
 ghost use Rattle.mf_text.specs.declared.direction.Direction.{Direction};
 ghost use Rattle.mf_value.specs.Traces.{argument_value};
-ghost use Rattle.mf_value.specs.Values.{option_text as text_of};
+ghost use Rattle.mf_value.specs.Values.{option_text};
 
 use crate::scope::Scope;
 use crate::settings::Settings;
@@ -84,7 +84,7 @@ impl<'a> Scope<'a> {
 /// The option text of an argument.
 fn argument_text(alloc: Global, argued: &Argued) -> Result<Text, AllocError>
     ensures { IfOk result
-        (λ text. (dir : Direction) → Some text ≡ text_of (argument_value dir argued.now).content) }
+        (λ text. (dir : Direction) → Some text ≡ option_text (argument_value dir argued.now).content) }
 {
     match argued {
         Argued::Text(text) => text.clone(),

@@ -13,9 +13,11 @@ use std::alloc::{AllocError, Global};
 use std::collections::BTreeMap;
 use std::marker::Model;
 
-/// The declarations of a message and the arguments of a request, with what was resolved so far and the errors of that.
+/// The declarations of a message and the arguments of a request, with what was resolved so far and
+/// the errors of that.
 ///
 /// After want of memory it is given up: no call on it promises anything then.
+/// See DECISIONS 129.
 #[derive(Drop)]
 pub struct Scope<'a> {
     pub(crate) arguments: &'a Arguments,
@@ -69,7 +71,8 @@ impl<'a> Scope<'a> {
         })
     }
 
-    /// The value of an expression of the message's pattern, by the functions of the scope's other calls.
+    /// The value of an expression of the message's pattern, by the functions of the scope's other
+    /// calls.
     pub fn resolve_expression<F: Functions>(
         &mut self,
         alloc: Global,
@@ -97,7 +100,8 @@ impl<'a> Scope<'a> {
         self.source_value(alloc, functions, name, &source)
     }
 
-    /// What markup of the message's pattern comes to, by the functions of the scope's other calls. It has no direction, so
+    /// What markup of the message's pattern comes to, by the functions of the scope's other calls.
+    /// It has no direction, so
     /// `u:dir` is refused, as is any other option of the namespace `u` but `u:id`.
     pub fn resolve_markup<F: Functions>(
         &mut self,

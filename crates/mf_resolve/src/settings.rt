@@ -30,7 +30,8 @@ impl Settings {
         }
     }
 
-    /// Takes an option with its option text, if it has one; not where it is refused. Markup has no direction.
+    /// Takes an option with its option text, if it has one; not where it is refused. Markup has no
+    /// direction.
     pub fn take(
         &mut self,
         directs: bool,

@@ -46,8 +46,8 @@ pub fn function_source(alloc: Global, name: &Identifier) -> Result<Text, AllocEr
     Ok(text)
 }
 
-/// The fallback source of an expression: its operand, or its function where it has no operand (Unicode TS 35, Part 9,
-/// "Fallback Resolution").
+/// The fallback source of an expression: its operand, or its function where it has no operand
+/// (Unicode TS 35, Part 9, "Fallback Resolution").
 pub fn fallback_source(alloc: Global, expression: &Expression) -> Result<Text, AllocError>
     ensures { IfOk result (λ text. text ≡ traces.fallback_source expression.now) }
 {

@@ -67,7 +67,8 @@ impl<'a> Scope<'a> {
         }
     }
 
-    /// What a variable stands for: a declaration is resolved where it wasn't, and there is an error where it is nothing.
+    /// What a variable stands for: a declaration is resolved where it wasn't, and there is an error
+    /// where it is nothing.
     #[cycle(resolving)]
     pub fn use_variable<F: Functions>(
         &mut self,

@@ -49,7 +49,8 @@ fn argument(alloc: Global, value: &str) -> Result<Argued, AllocError> {
     Ok(Argued::Text(Text::of(alloc, value)?))
 }
 
-/// The position of the chosen variant, if there are any, the values of what stands in its pattern, and the errors.
+/// The position of the chosen variant, if there are any, the values of what stands in its pattern,
+/// and the errors.
 fn resolved(
     alloc: Global,
     record: &LocaleRecord,

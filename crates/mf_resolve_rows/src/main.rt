@@ -1,10 +1,11 @@
-//! The program `mf_resolve_rows`: looks whether the expressions and selectors of messages come to what the rows of `rows.txt`
-//! say, and prints each difference and how many there are.
+//! The program `mf_resolve_rows`: looks whether the expressions and selectors of messages come to
+//! what the rows of `rows.txt` say, and prints each difference and how many there are.
 //!
-//! A row is a source and, behind `??`, its arguments: `name=text`, or `name=#number`. Behind `=>` stand the position of the
-//! chosen variant, as `[0]`, if there are any, what the expressions and the markup of the pattern come to, and the errors. A
-//! fallback is shown as `{source}`, and of markup its options as `<name=text, ..>`; a direction that `u:dir` sets stands
-//! behind `!`, an id behind `#`. A line `record` names the JSON of the locale of the rows below it.
+//! A row is a source and, behind `??`, its arguments: `name=text`, or `name=#number`. Behind `=>`
+//! stand the position of the chosen variant, as `[0]`, if there are any, what the expressions and
+//! the markup of the pattern come to, and the errors. A fallback is shown as `{source}`, and of
+//! markup its options as `<name=text, ..>`; a direction that `u:dir` sets stands behind `!`, an id
+//! behind `#`. A line `record` names the JSON of the locale of the rows below it.
 #![tactic(auto)]
 
 mod asking;

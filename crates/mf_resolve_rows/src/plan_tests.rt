@@ -1,10 +1,12 @@
-//! What rows of sources don't show: a message with too many declarations, and a source compiled for its ticket.
+//! What rows of sources don't show: a message with too many declarations, and a source compiled for
+//! its ticket.
 use mf_flight::{Asked, Flights};
 use mf_plan::{Plan, compile};
 use std::alloc::{AllocError, Global};
 use std::test::Fail;
 
-/// The number of errors of a message that declares one variable so many times, and the first of them.
+/// The number of errors of a message that declares one variable so many times, and the first of
+/// them.
 fn errors_of(alloc: Global, declarations: usize) -> Result<(usize, &'static str), AllocError> {
     let mut source = String::new(alloc);
     for _ in 0..declarations {

@@ -10,12 +10,12 @@ use mf_tree::{Names, Variants};
 use mf_value::Functions;
 use std::alloc::{AllocError, Global};
 
-/// The position, from 0, of the variant that is chosen, by the functions of the scope's other calls: each of its keys matches
-/// the value of its selector, and of all such variants its ranks are least, the first selector counting most. Of variants
-/// whose ranks are equal it is the first.
+/// The position, from 0, of the variant that is chosen, by the functions of the scope's other
+/// calls: each of its keys matches the value of its selector, and of all such variants its ranks
+/// are least, the first selector counting most. Of variants whose ranks are equal it is the first.
 ///
-/// The scope then has the errors of the selectors from left to right, each followed by `bad-selector` where it can't select,
-/// and behind them `bad-variant-key` for each key that is none for its value, column by column.
+/// The scope then has the errors of the selectors from left to right, each followed by
+/// `bad-selector` where it can't select, and behind them `bad-variant-key` for each key that is none for its value, column by column.
 pub fn choose<'a, F: Functions>(
     alloc: Global,
     scope: &mut Scope<'a>,

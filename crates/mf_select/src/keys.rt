@@ -75,7 +75,8 @@ fn rank_key<'a, F: Functions>(
     }
 }
 
-/// The rank of a literal key, with an error where it is none for the value. Where a selector can't select none matches.
+/// The rank of a literal key, with an error where it is none for the value. Where a selector can't
+/// select none matches.
 fn rank_literal<'a, F: Functions>(
     alloc: Global,
     scope: &mut Scope<'a>,

@@ -7,8 +7,8 @@ pub fn valid_messages_can_be_chosen_from()
     ensures { ValidCanChoose }
 {}
 
-/// Two keys that match a value equally well are equal, by the ranks of a locale: those of the built-in functions and of
-/// handlers.
+/// Two keys that match a value equally well are equal, by the ranks of a locale: those of the
+/// built-in functions and of handlers.
 pub fn ranks_tell_keys_apart()
     ensures { RanksTellKeys }
 {}

@@ -16,7 +16,8 @@ pub const KEYWORD: Rank = 1;
 /// The key is `*`.
 pub const ANY: Rank = 2;
 
-/// The ranks of the keys of variants: column by column, and in each by variants. A key that doesn't match has none.
+/// The ranks of the keys of variants: column by column, and in each by variants. A key that doesn't
+/// match has none.
 #[derive(Drop)]
 pub struct Ranks {
     pub ranks: List<Option<Rank>>,

@@ -1,6 +1,6 @@
 ghost use Rattle.std.specs.Prelude.{◌≡◌, ◌↔◌, [], None, Some, chars, length, IfOk, IsTrue, MatchBool, OnErr};
 ghost use Rattle.std.specs.Option.{option_copied};
-ghost use Rattle.unicode_normalization.specs.Forms.{nfc as nfc_of};
+ghost use Rattle.unicode_normalization.specs.Forms.{nfc};
 ghost use Rattle.mf_text.specs.Arguments.{argument_named, with_new_argument, AreNormal};
 
 use crate::{Text, nfc};
@@ -18,8 +18,9 @@ pub enum Argued {
     Unsigned(u64),
 }
 
-/// The arguments of a request, seen as the list of their names and values in the byte order of the names. The names are in
-/// Normalization Form C (Unicode Standard Annex 15), and no two arguments have one name.
+/// The arguments of a request, seen as the list of their names and values in the byte order of the
+/// names. The names are in Normalization Form C (Unicode Standard Annex 15), and no two arguments
+/// have one name.
 #[derive(Debug, Drop)]
 pub struct Arguments {
     named: BTreeMap<Text, Argued>,
@@ -70,12 +71,12 @@ impl Arguments {
         self.named.get(name)
     }
 
-    /// Gives a name, taken in Normalization Form C, its value, and answers `true`. Where the name has a value already
-    /// nothing is changed, and the answer is `false`.
+    /// Gives a name, taken in Normalization Form C, its value, and answers `true`. Where the name
+    /// has a value already nothing is changed, and the answer is `false`.
     pub fn insert(&mut self, alloc: Global, name: &str, value: Argued) -> Result<bool, AllocError>
         ensures ok { IfOk result (λ is_new. MatchBool is_new
-            (with_new_argument self.old (nfc_of (chars name.now)) value ≡ Some self.new)
-            ((with_new_argument self.old (nfc_of (chars name.now)) value ≡ None) × (self.new ≡ self.old))) }
+            (with_new_argument self.old (nfc (chars name.now)) value ≡ Some self.new)
+            ((with_new_argument self.old (nfc (chars name.now)) value ≡ None) × (self.new ≡ self.old))) }
         ensures err { OnErr result (self.new ≡ self.old) }
     {
         let name = nfc(alloc, name)?;

@@ -1,25 +1,26 @@
-//! The classes of characters of a message. Source: Unicode TS 35, Part 9, "Message syntax"; the table of
+//! The classes of characters of a message. Source: Unicode TS 35, Part 9, "Message syntax"; the
+//! table of
 //! `name-start` is this project's own and follows it.
 ghost use Rattle.std.specs.Prelude.{◌≡◌};
-ghost use Rattle.mf_text.specs.Characters.{is_in, name_rest, name_start_above, name_start_below, is_ws as has_ws, is_bidi as has_bidi, is_name_start as has_name_start, is_name_char as has_name_char, is_text as has_text, is_quoted as has_quoted, is_escapable as has_escapable, is_simple_start as has_simple_start};
+ghost use Rattle.mf_text.specs.Characters.{is_in, name_rest, name_start_above, name_start_below, is_ws, is_bidi, is_name_start, is_name_char, is_text, is_quoted, is_escapable, is_simple_start};
 
 /// Whether a character is white space (`ws`): U+0009, U+000A, U+000D, U+0020 or U+3000.
 pub fn is_ws(c: char) -> bool
-    ensures { result ≡ has_ws c }
+    ensures { result ≡ is_ws c }
 {
     matches!(c, '\t'..='\n' | '\r' | ' ' | '\u{3000}')
 }
 
 /// Whether a character is a mark of direction (`bidi`): U+061C, U+200E, U+200F or U+2066 to U+2069.
 pub fn is_bidi(c: char) -> bool
-    ensures { result ≡ has_bidi c }
+    ensures { result ≡ is_bidi c }
 {
     matches!(c, '\u{61c}' | '\u{200e}'..='\u{200f}' | '\u{2066}'..='\u{2069}')
 }
 
 /// Whether a name may begin with a character (`name-start`).
 pub fn is_name_start(c: char) -> bool
-    ensures { result ≡ has_name_start c }
+    ensures { result ≡ is_name_start c }
 {
     is_name_start_below(c) || is_name_start_above(c)
 }
@@ -69,7 +70,7 @@ fn is_name_start_above(c: char) -> bool
 
 /// Whether a name may go on with a character (`name-char`).
 pub fn is_name_char(c: char) -> bool
-    ensures { result ≡ has_name_char c }
+    ensures { result ≡ is_name_char c }
 {
     is_name_start(c) || is_name_rest(c)
 }
@@ -80,30 +81,33 @@ fn is_name_rest(c: char) -> bool
     matches!(c, '-'..='.' | '0'..='9')
 }
 
-/// Whether a character stands for itself in a text (`text-char`): every one but U+0000, `\`, `{` and `}`.
+/// Whether a character stands for itself in a text (`text-char`): every one but U+0000, `\`, `{`
+/// and `}`.
 pub fn is_text(c: char) -> bool
-    ensures { result ≡ has_text c }
+    ensures { result ≡ is_text c }
 {
     !matches!(c, '\0' | '\\' | '{' | '}')
 }
 
-/// Whether a character stands for itself in a quoted literal (`quoted-char`): every one but U+0000, `\` and `|`.
+/// Whether a character stands for itself in a quoted literal (`quoted-char`): every one but U+0000,
+/// `\` and `|`.
 pub fn is_quoted(c: char) -> bool
-    ensures { result ≡ has_quoted c }
+    ensures { result ≡ is_quoted c }
 {
     !matches!(c, '\0' | '\\' | '|')
 }
 
 /// Whether a character may follow a backslash (`escaped-char`): `\`, `{`, `|` or `}`.
 pub fn is_escapable(c: char) -> bool
-    ensures { result ≡ has_escapable c }
+    ensures { result ≡ is_escapable c }
 {
     matches!(c, '\\' | '{'..='}')
 }
 
-/// Whether a simple message may begin with a character (`simple-start-char`): every `text-char` but white space and `.`.
+/// Whether a simple message may begin with a character (`simple-start-char`): every `text-char` but
+/// white space and `.`.
 pub fn is_simple_start(c: char) -> bool
-    ensures { result ≡ has_simple_start c }
+    ensures { result ≡ is_simple_start c }
 {
     is_text(c) && !is_ws(c) && c != '.'
 }

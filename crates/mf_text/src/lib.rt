@@ -1,6 +1,7 @@
 //! Texts and lists: what every other crate of the server stands on.
 //!
-//! A [`Text`] is owned and seen as the list of its characters; a [`List`] is owned and seen as the list of its members.
+//! A [`Text`] is owned and seen as the list of its characters; a [`List`] is owned and seen as the
+//! list of its members.
 #![tactic(auto)]
 
 mod arguments;

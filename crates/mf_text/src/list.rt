@@ -60,8 +60,8 @@ impl<T> List<T> {
         }
     }
 
-    /// A list of no members. Room for this many is asked for now, so that they are put in without growing; that is a
-    /// hint, and what is put in is the same without it.
+    /// A list of no members. Room for this many is asked for now, so that they are put in without
+    /// growing; that is a hint, and what is put in is the same without it.
     pub fn with_capacity(alloc: Global, capacity: usize) -> Result<List<T>, AllocError>
         ensures { IfOk result (λ l. l ≡ []) }
     {

@@ -31,8 +31,8 @@ pub fn steps_stay()
     ensures { StepsStay }
 {}
 
-/// Behind the edition that a transcript begins at, each entry of its caller has as its number how many the caller has up to
-/// it.
+/// Behind the edition that a transcript begins at, each entry of its caller has as its number how
+/// many the caller has up to it.
 pub fn counts_number_entries()
     ensures { CountsNumberEntries }
 {}
@@ -42,7 +42,8 @@ pub fn replies_differ()
     ensures { RepliesDiffer }
 {}
 
-/// A request for a sentence is served one message where its answer is formatted or too long, and else none.
+/// A request for a sentence is served one message where its answer is formatted or too long, and
+/// else none.
 pub fn answers_are_served()
     ensures { AnswersAreServed }
 {}
@@ -72,14 +73,14 @@ pub fn moves_follow()
     ensures { MovesFollow }
 {}
 
-/// What the one caller of a desk sends and gets is a transcript of caller 0 over the log of the desk afterwards, where the
-/// opening log is caller 0's.
+/// What the one caller of a desk sends and gets is a transcript of caller 0 over the log of the
+/// desk afterwards, where the opening log is caller 0's.
 pub fn soles_are_transcripts()
     ensures { SolesAreTranscripts }
 {}
 
-/// Without memory lines, the replies to the one caller of a desk and the log afterwards are a function of the desk and the
-/// lines.
+/// Without memory lines, the replies to the one caller of a desk and the log afterwards are a
+/// function of the desk and the lines.
 pub fn soles_have_one_outcome()
     ensures { SolesHaveOneOutcome }
 {}

@@ -3,8 +3,8 @@ ghost use Rattle.mf_tree.specs.Kinds.{class_of};
 
 use mf_text::{List, Text};
 
-/// The class of an error: of the source, of its resolution, or of its selection. Source: Unicode TS 35, Part 9,
-/// "Errors"; the names and their number are this project's own.
+/// The class of an error: of the source, of its resolution, or of its selection. Source: Unicode TS
+/// 35, Part 9, "Errors"; the names and their number are this project's own.
 #[derive(Clone, Copy, Debug, PartialEq, Eq)]
 pub enum Kind {
     Syntax,
@@ -51,7 +51,8 @@ impl Kind {
 #[derive(Debug, Drop)]
 pub struct Fault {
     pub kind: Kind,
-    /// What it is about: `$name`, an identifier, a fallback source, a key, a variant's number from 1, or nothing.
+    /// What it is about: `$name`, an identifier, a fallback source, a key, a variant's number from
+    /// 1, or nothing.
     pub of: Text,
 }
 

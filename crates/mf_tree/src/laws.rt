@@ -1,4 +1,5 @@
-//! What holds of every message that is spelled: each clause is a theorem over the definitions alone.
+//! What holds of every message that is spelled: each clause is a theorem over the definitions
+//! alone.
 ghost use Rattle.mf_tree.specs.Laws.{AnnotationIsTested, EqualityIsTested, MarksMakeNoDifference, SpellsNodes};
 
 /// Every message that a text spells is a node.
@@ -11,8 +12,8 @@ pub fn marks_make_no_difference()
     ensures { MarksMakeNoDifference }
 {}
 
-/// A variable is annotated where the test that goes from declaration to declaration says so: as many steps as there are
-/// declarations are enough, and a circle of declarations annotates nothing.
+/// A variable is annotated where the test that goes from declaration to declaration says so: as
+/// many steps as there are declarations are enough, and a circle of declarations annotates nothing.
 pub fn annotation_is_tested()
     ensures { AnnotationIsTested }
 {}

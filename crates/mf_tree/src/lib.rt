@@ -1,8 +1,8 @@
 //! The tree of a message: what a source text spells.
 //!
-//! The nodes are plain enums and structs over lists, and hold what the source says, not how it was written: neither
-//! white space nor marks of direction, nor whether a literal was quoted. Source: Unicode TS 35, Part 9, "Message
-//! syntax" and "Data model".
+//! The nodes are plain enums and structs over lists, and hold what the source says, not how it was
+//! written: neither white space nor marks of direction, nor whether a literal was quoted. Source:
+//! Unicode TS 35, Part 9, "Message syntax" and "Data model".
 #![tactic(auto)]
 
 mod expression;

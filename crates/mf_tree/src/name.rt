@@ -1,5 +1,5 @@
 ghost use Rattle.std.specs.Prelude.{◌≡◌};
-ghost use Rattle.unicode_normalization.specs.Forms.{nfc as nfc_of};
+ghost use Rattle.unicode_normalization.specs.Forms.{nfc};
 
 use mf_text::{List, Text};
 
@@ -10,7 +10,7 @@ pub struct Name {
     pub spelled: Text,
     /// The same in Normalization Form C, by which names are compared.
     pub value: Text,
-    ghost in_nfc: { value ≡ nfc_of spelled },
+    ghost in_nfc: { value ≡ nfc spelled },
 }
 
 /// A list of names.

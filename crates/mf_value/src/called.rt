@@ -2,7 +2,8 @@ use crate::value::Value;
 use mf_text::List;
 use mf_tree::Kind;
 
-/// An error of a call: its class, and the option at which it arose, by its place among the options from 0.
+/// An error of a call: its class, and the option at which it arose, by its place among the options
+/// from 0.
 #[derive(Clone, Copy, Debug, PartialEq, Eq)]
 pub struct CallFault {
     pub kind: Kind,
@@ -12,7 +13,8 @@ pub struct CallFault {
 /// Errors of a call in the order of the options.
 pub type CallFaults = List<CallFault>;
 
-/// What a call gives: a value, or none where the function refuses its operand; and the options that it refuses.
+/// What a call gives: a value, or none where the function refuses its operand; and the options that
+/// it refuses.
 #[derive(Debug, Drop)]
 pub struct Called {
     pub value: Option<Value>,

@@ -15,14 +15,16 @@ pub enum Content {
     Fallback(Text),
 }
 
-/// How a value selects a variant (Unicode TS 35, Part 9, "Pattern Selection" and the option `select`).
+/// How a value selects a variant (Unicode TS 35, Part 9, "Pattern Selection" and the option
+/// `select`).
 #[derive(Clone, Copy, Debug, PartialEq, Eq)]
 pub enum Selects {
     /// It selects nothing.
     Nothing,
     /// As a text: the key with its normal form.
     Text,
-    /// As a number: the key that is its exact text, else its category by the plural rules for cardinal numbers.
+    /// As a number: the key that is its exact text, else its category by the plural rules for
+    /// cardinal numbers.
     Plural,
     /// The same by those for ordinal numbers.
     Ordinal,

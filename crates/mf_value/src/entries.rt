@@ -10,10 +10,12 @@ use std::alloc::{AllocError, Global};
 use std::collections::BTreeMap;
 use std::marker::Model;
 
-/// Texts, each under a key, seen as the list of their keys and texts in the order that they were given in.
+/// Texts, each under a key, seen as the list of their keys and texts in the order that they were
+/// given in.
 ///
-/// The normal forms of the keys (Unicode Standard Annex 15, Normalization Form C) are made and put in order once, when the
-/// entries are made; a look-up is a search among them.
+/// The normal forms of the keys (Unicode Standard Annex 15, Normalization Form C) are made and put
+/// in order once, when the entries are made; a look-up is a search among them.
+/// See DECISIONS 121.
 #[derive(Debug, Drop)]
 pub struct Entries {
     pairs: Vec<Pair>,

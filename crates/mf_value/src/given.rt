@@ -11,5 +11,6 @@ pub struct Given {
     pub literal: bool,
 }
 
-/// Options in the order of the source. Where an identifier is there more than once, the first that is allowed counts.
+/// Options in the order of the source. Where an identifier is there more than once, the first that
+/// is allowed counts.
 pub type Options = List<Given>;

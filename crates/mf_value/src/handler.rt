@@ -33,7 +33,8 @@ pub enum DefError {
     /// The base isn't `string`, `number` or `integer`.
     #[error("the base of a handler is string, number or integer")]
     BadBase,
-    /// The preset at this place, from 0, isn't an option of the base, or has a value that isn't allowed.
+    /// The preset at this place, from 0, isn't an option of the base, or has a value that isn't
+    /// allowed.
     #[error("preset {index} isn't an option of the base with a value that is allowed")]
     BadOption { index: u32 },
     /// The key at this place, from 0, has the normal form of an earlier one.

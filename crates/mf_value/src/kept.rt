@@ -6,7 +6,8 @@ ghost use Rattle.mf_value.specs.Ranges.{is_way_of_number, is_within};
 use crate::content::Selects;
 use mf_numfmt::{Grouping, Sign};
 
-/// The options of a number that were given to it, each none where it wasn't (Unicode TS 35, Part 9, the functions
+/// The options of a number that were given to it, each none where it wasn't (Unicode TS 35, Part 9,
+/// the functions
 /// `:number` and `:integer`). They are as they were written: a maximum may be below its minimum.
 #[derive(Clone, Copy, Debug, PartialEq, Eq)]
 pub struct Kept {

@@ -1,7 +1,8 @@
 //! Values of a message's expressions, and what a set of functions is.
 //!
-//! A [`Value`] is what an expression comes to: a text, a number with the options that it keeps, or a fallback. A set of
-//! functions is whatever implements [`Functions`]. Source: Unicode TS 35, Part 9, "Formatting" and "Default Functions".
+//! A [`Value`] is what an expression comes to: a text, a number with the options that it keeps, or
+//! a fallback. A set of functions is whatever implements [`Functions`]. Source: Unicode TS 35, Part
+//! 9, "Formatting" and "Default Functions".
 #![tactic(auto)]
 
 mod built_in;

@@ -1,4 +1,5 @@
-//! The options of a number that was given none: a file of its own, since what it promises names the type.
+//! The options of a number that was given none: a file of its own, since what it promises names the
+//! type.
 
 ghost use Rattle.std.specs.Prelude.{◌≡◌};
 ghost use Rattle.mf_value.specs.Values.{nothing_kept};

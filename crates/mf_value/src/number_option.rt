@@ -3,7 +3,8 @@
 ghost use Rattle.std.specs.Prelude.{◌≡◌};
 ghost use Rattle.mf_value.specs.NumberOptions as options;
 
-/// A function whose value is a number (Unicode TS 35, Part 9, "Numeric Value Selection and Formatting").
+/// A function whose value is a number (Unicode TS 35, Part 9, "Numeric Value Selection and
+/// Formatting").
 #[derive(Clone, Copy, Debug, PartialEq, Eq)]
 pub enum NumberFunction {
     /// `:number`.

@@ -8,8 +8,8 @@ use mf_text::Text;
 use std::alloc::{AllocError, Global};
 
 impl Content {
-    /// What the value is where it is given to an option or to a function that takes a text: a text itself, the exact text of
-    /// a number. A fallback has none.
+    /// What the value is where it is given to an option or to a function that takes a text: a text
+    /// itself, the exact text of a number. A fallback has none.
     pub fn option_text(&self, alloc: Global) -> Result<Option<Text>, AllocError>
         ensures { IfOk result (λ text. text ≡ values.option_text self.now) }
     {

@@ -20,7 +20,8 @@ pub struct Value {
     pub prefix: Text,
     /// Stands behind what is shown.
     pub suffix: Text,
-    /// How it selects: a fallback by nothing, a text by nothing or as a text, a number never as a text.
+    /// How it selects: a fallback by nothing, a text by nothing or as a text, a number never as a
+    /// text.
     pub selects: Selects,
     pub ghost selects_fits: { selects_so content selects ≡ true },
 }

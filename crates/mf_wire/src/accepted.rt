@@ -15,7 +15,8 @@ use std::marker::Model;
 /// The most bytes that the line takes, with what the writer asks for at each token.
 const LINE_ROOM: usize = 64;
 
-/// Room for the line that says that a change was published, seen as what the change is a publication of.
+/// Room for the line that says that a change was published, seen as what the change is a
+/// publication of.
 #[derive(Debug, Drop)]
 pub struct Accepted {
     room: Vec<u8>,
@@ -45,7 +46,8 @@ impl Accepted {
         })
     }
 
-    /// The line, without its line feed, of the publication that made this edition. It takes no memory.
+    /// The line, without its line feed, of the publication that made this edition. It takes no
+    /// memory.
     pub fn line(self, edition: u64) -> Text
         ensures { encode_utf8_all result ≡ reply_line (reply.Accepted edition self) }
     {

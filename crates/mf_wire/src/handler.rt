@@ -222,7 +222,8 @@ fn texts(alloc: Global, value: &Value) -> Result<Option<Pairs>, AllocError>
     }
 }
 
-/// The texts of an object in the byte order of their names: none where one of its values isn't a text.
+/// The texts of an object in the byte order of their names: none where one of its values isn't a
+/// text.
 fn ordered(alloc: Global, members: &Map<String, Value>) -> Result<Option<Pairs>, AllocError>
     ensures { IfOk result
         (λ pairs. pairs ≡ fields.ordered_from (members_view members.now.entries)) }

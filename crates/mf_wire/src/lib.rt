@@ -1,7 +1,7 @@
 //! The lines of the server: requests read, replies written.
 //!
-//! A request is a line of JSON ([RFC 8259](https://www.rfc-editor.org/rfc/rfc8259)), and each request gets one
-//! line of compact JSON, the keys of every object in byte order.
+//! A request is a line of JSON ([RFC 8259](https://www.rfc-editor.org/rfc/rfc8259)), and each
+//! request gets one line of compact JSON, the keys of every object in byte order.
 #![tactic(auto)]
 
 mod accepted;

@@ -11,8 +11,8 @@ use thiserror::Error;
 /// Why a line is no request.
 #[derive(Clone, Copy, Debug, PartialEq, Eq, Error)]
 pub enum WireError {
-    /// The line is no JSON: it isn't UTF-8, breaks the grammar, has a number past the floats, or nests more than
-    /// 127 arrays and objects.
+    /// The line is no JSON: it isn't UTF-8, breaks the grammar, has a number past the floats, or
+    /// nests more than 127 arrays and objects.
     #[error("the line is no JSON")]
     BadJson,
     /// This field is the first that is missing, of another kind or out of range.
@@ -20,8 +20,8 @@ pub enum WireError {
     BadRequest {
         field: Field,
     },
-    /// This field of the locale record is the first that is missing, of another kind or out of range, or has this rule as
-    /// its first bad one, counted from 1.
+    /// This field of the locale record is the first that is missing, of another kind or out of
+    /// range, or has this rule as its first bad one, counted from 1.
     #[error("the field {} of the locale record is missing or wrong", field.as_str())]
     BadLocale {
         field: RecordField,

@@ -96,7 +96,8 @@ pub enum Reply {
     LintInvalid {
         faults: Faults,
     },
-    /// The newest edition, how many compilations of its messages were begun, and how many of these were given up.
+    /// The newest edition, how many compilations of its messages were begun, and how many of these
+    /// were given up.
     Stat {
         edition: u64,
         starts: u64,
@@ -108,8 +109,8 @@ pub enum Reply {
     BadRequest {
         field: Field,
     },
-    /// This field of the locale record is the first that is missing, of another kind or out of range, or has this rule as
-    /// its first bad one, counted from 1.
+    /// This field of the locale record is the first that is missing, of another kind or out of
+    /// range, or has this rule as its first bad one, counted from 1.
     BadLocale {
         field: RecordField,
         rule: Option<u32>,
@@ -122,7 +123,8 @@ pub enum Reply {
     EditionsFull {
         entries: u64,
     },
-    /// The publication counts for `size` bytes, and with the `used` ones would pass the limit of the log.
+    /// The publication counts for `size` bytes, and with the `used` ones would pass the limit of
+    /// the log.
     StoreFull {
         used: u64,
         size: u64,

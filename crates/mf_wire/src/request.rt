@@ -21,8 +21,8 @@ use std::alloc::Global;
 pub enum Request {
     /// Publish a change.
     Publish(Change),
-    /// Format the message of an id, looked up along the chain of a tag, with arguments whose names are in
-    /// Normalization Form C, in an edition of at least this number.
+    /// Format the message of an id, looked up along the chain of a tag, with arguments whose names
+    /// are in Normalization Form C, in an edition of at least this number.
     Format {
         tag: Tag,
         id: Text,

@@ -7,8 +7,8 @@ use crate::fields::string_field;
 use mf_locale::Tag;
 use serde_json::Value;
 
-/// The bytes that the publication of a locale record counts for: 64, those of the tag, and those of the record's texts as
-/// they are given.
+/// The bytes that the publication of a locale record counts for: 64, those of the tag, and those of
+/// the record's texts as they are given.
 pub(crate) fn record_size(tag: &Tag, given: &Value) -> u64
     ensures { result ≡ sizes.record_size tag.now (view given.now) }
 {

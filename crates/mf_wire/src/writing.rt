@@ -1,4 +1,5 @@
-//! A reply written token by token, straight into the buffer of its line: no JSON value is made of it.
+//! A reply written token by token, straight into the buffer of its line: no JSON value is made of
+//! it.
 
 ghost use Rattle.std.specs.Prelude.{◌≡◌, ◌<◌, codes, IfSome, OnErr, OnOk, encode_utf8_all};
 ghost use Rattle.serde_json.specs.Data.{string};
@@ -21,7 +22,8 @@ use std::alloc::{AllocError, Global};
 /// About how many bytes a part or an error takes.
 const ITEM_ROOM: usize = 64;
 
-/// About how many bytes the line of a reply takes: enough for most lines, so that their buffer doesn't grow.
+/// About how many bytes the line of a reply takes: enough for most lines, so that their buffer
+/// doesn't grow.
 pub(crate) fn line_room(reply: &Reply) -> usize {
     let more = match reply {
         Reply::Formatted { parts, faults, .. } => {
@@ -66,7 +68,8 @@ pub(crate) fn write_reply(alloc: Global, out: &mut Writer, reply: &Reply) -> Res
     }
 }
 
-/// Writes the object of a publication that is accepted. It fails only where there was room for fewer than 64 bytes.
+/// Writes the object of a publication that is accepted. It fails only where there was room for
+/// fewer than 64 bytes.
 pub(crate) fn write_accepted(out: &mut Writer, edition: u64, op: Op) -> Result<(), AllocError>
     ensures written { OnOk result
         (Writes (reply_data (reply.Accepted edition op)) out.old out.new) }
@@ -93,7 +96,8 @@ fn write_bad_request(out: &mut Writer, field: Field) -> Result<(), AllocError>
     )
 }
 
-/// Writes the object of a locale record that is refused by a field, and by a rule where one is named.
+/// Writes the object of a locale record that is refused by a field, and by a rule where one is
+/// named.
 fn write_bad_locale(
     out: &mut Writer,
     field: RecordField,
@@ -281,7 +285,8 @@ fn write_formatted(
     out.end_object()
 }
 
-/// Writes the member of the parts' text. The text of a part that is alone is written as it stands, with no copy made.
+/// Writes the member of the parts' text. The text of a part that is alone is written as it stands,
+/// with no copy made.
 fn write_joined(alloc: Global, out: &mut Writer, parts: &Parts) -> Result<(), AllocError>
     ensures { OnOk result
         (WritesMember (codes "text") (string (encode_utf8_all (text_of parts.now)))

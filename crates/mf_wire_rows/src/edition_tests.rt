@@ -1,5 +1,5 @@
-//! What rows of requests can't show of mf_edition: each call with ample memory, the next edition beside the old one, the bounds
-//! of a log, and when changes are equal.
+//! What rows of requests can't show of mf_edition: each call with ample memory, the next edition
+//! beside the old one, the bounds of a log, and when changes are equal.
 use mf_edition::{
     Catalogue, Change, Entry, Handler, Log, Publications, PublishError, SharedHandler,
 };

@@ -27,8 +27,8 @@ fn number(alloc: Global, dir: Direction, forced: bool) -> Result<Part, AllocErro
     })
 }
 
-// What `x` of this direction is in messages that go left to right, right to left and in no known direction: first where its
-// isolation isn't forced, then where it is.
+// What `x` of this direction is in messages that go left to right, right to left and in no known
+// direction: first where its isolation isn't forced, then where it is.
 #[test]
 fn a_value_is_isolated_by_its_direction(rt: HostRuntime) -> Result<(), Fail> {
     let alloc = rt.alloc();
@@ -64,7 +64,8 @@ fn a_value_is_isolated_by_its_direction(rt: HostRuntime) -> Result<(), Fail> {
     Ok(())
 }
 
-// A text and markup stand as they are, and markup shows nothing; a fallback is shown in braces, between marks of its own.
+// A text and markup stand as they are, and markup shows nothing; a fallback is shown in braces,
+// between marks of its own.
 #[test]
 fn what_is_no_value_has_its_own_rules(rt: HostRuntime) -> Result<(), Fail> {
     let alloc = rt.alloc();
