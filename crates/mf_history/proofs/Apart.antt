@@ -7,16 +7,15 @@ use Rattle.mf_lint.specs.declared.linting.Linted.TheVariants.{Invalid, Valid}
 use Rattle.mf_transcript.proofs.Fixed.{kind}
 use Rattle.mf_transcript.specs.Asked.{request_of}
 use Rattle.mf_transcript.specs.Lines.{ShowsAtMost}
-use Rattle.mf_transcript.specs.Replies.{lint_reply, IsLintReply}
+use Rattle.mf_transcript.specs.Replies.{IsLintReply, lint_reply, shows_counts}
 use Rattle.mf_transcript.specs.Steps.{no_memory, stands_apart, ApartFor, Standing}
 use Rattle.mf_wire.specs.Replies.{memory_line, reply_line}
 use Rattle.mf_wire.specs.declared.reply.Reply.{Reply}
 use Rattle.mf_wire.specs.declared.request.Request.TheVariants.{Lint}
-use Rattle.mf_history.specs.Asking.{shows_counts}
 use Rattle.mf_history.specs.Places.{Goes, IsStuck, StandsAs}
 use Rattle.mf_history.specs.declared.place.Place.{Place}
 use Rattle.mf_history.proofs.Cases.{apart}
-use Rattle.mf_history.proofs.Shown.{memory_shows, others_show}
+use Rattle.mf_transcript.proofs.Shown.{memory_shows, others_show}
 
 plain : (linted : Linted) → shows_counts (lint_reply linted) ≡ false
 plain (Valid printed) = refl

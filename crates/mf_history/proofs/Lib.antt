@@ -10,8 +10,6 @@ pub mod Digits
 pub mod Editions
 pub mod Lines
 pub mod Publishing
-pub mod Refused
 pub mod Results
 pub mod Sentences
-pub mod Shown
 pub mod Standing

@@ -4,19 +4,11 @@ use Rattle.std.specs.Fmt.{decimal}
 use Rattle.json.specs.Print.{escape_byte}
 use Rattle.mf_wire.specs.Replies.{reply_line}
 use Rattle.mf_wire.specs.declared.reply.Op.{Op}
-use Rattle.mf_wire.specs.declared.reply.Reply.TheVariants.{Accepted, Stat, StoreFull}
+use Rattle.mf_wire.specs.declared.reply.Reply.TheVariants.{Accepted, StoreFull}
 use Rattle.mf_answer.specs.Answers as answers
 use Rattle.mf_answer.specs.Answers.{Answer}
 use Rattle.mf_transcript.specs.Replies.{answer_reply}
 use Rattle.mf_history.specs.Numbers.{Names}
-
--- behind the comma that follows the edition
-abbrev pub stat_rest : ℕ → ℕ → List ℕ
-stat_rest starts quits = codes "\"ok\":\"stat\",\"quits\":" ++ (decimal quits ++ 44 ∷ (codes "\"starts\":" ++ (decimal starts ++ 125 ∷ [])))
-
-pub stat_line : (k starts quits : ℕ) → reply_line (Stat k starts quits) ≡ codes "{\"edition\":" ++ (decimal k ++ 44 ∷ stat_rest starts quits)
-unfolding escape_byte
-stat_line k starts quits = refl
 
 pub store_line : (used size : ℕ) → reply_line (StoreFull used size) ≡ codes "{\"error\":\"store-full\",\"size\":" ++ (decimal size ++ 44 ∷ (codes "\"used\":" ++ (decimal used ++ 125 ∷ [])))
 unfolding escape_byte

@@ -9,16 +9,15 @@ use Rattle.mf_edition.specs.declared.error.Refusal.{Refusal}
 use Rattle.mf_edition.specs.declared.error.Refusal.TheVariants.{EditionsFull, StoreFull}
 use Rattle.mf_transcript.specs.Asked.{request_of}
 use Rattle.mf_transcript.specs.Lines.{ShowsAtMost}
-use Rattle.mf_transcript.specs.Replies.{refusal_reply}
+use Rattle.mf_transcript.specs.Replies.{refusal_reply, shows_counts}
 use Rattle.mf_transcript.specs.Steps.{is_accepted, is_refused, next_entry, makes, sees, Standing}
 use Rattle.mf_wire.specs.Replies.{memory_line, op_of, reply_line}
 use Rattle.mf_wire.specs.declared.reply.Reply.TheVariants as reply
 use Rattle.mf_wire.specs.declared.request.Request.TheVariants.{Publish}
 use Rattle.mf_history.specs.Places.{Goes, IsAcceptedAt, IsFull, IsRefusedAt, IsStuck, Moves, StandsAs}
-use Rattle.mf_history.specs.Asking.{shows_counts}
 use Rattle.mf_history.specs.declared.place.Place.{Place}
 use Rattle.mf_history.proofs.Cases.{published}
-use Rattle.mf_history.proofs.Shown.{others_show}
+use Rattle.mf_transcript.proofs.Shown.{others_show}
 use Rattle.mf_history.proofs.Standing.{moved, moved_on, stands_at}
 
 same_refusal : (one other : Refusal) (found : Option Refusal) → found ≡ Some one → found ≡ Some other → one ≡ other

@@ -9,13 +9,12 @@ use Rattle.mf_edition.specs.declared.change.Entry.{Entry}
 use Rattle.mf_transcript.proofs.Fronts.{in_edition-append, in_edition-with}
 use Rattle.mf_transcript.specs.Asked.{request_of}
 use Rattle.mf_transcript.specs.Lines.{ShowsAtMost}
-use Rattle.mf_transcript.specs.Replies.{answer_reply, IsFormatReply, IsLineOf}
+use Rattle.mf_transcript.specs.Replies.{IsFormatReply, IsLineOf, answer_reply, shows_counts}
 use Rattle.mf_transcript.specs.Served.{in_edition, served_by, served_for, with_edition}
 use Rattle.mf_transcript.specs.Steps.{is_answered, gets, sees, Standing}
 use Rattle.mf_wire.specs.Replies.{memory_line, reply_line}
 use Rattle.mf_wire.specs.declared.reply.Reply.{Reply}
 use Rattle.mf_wire.specs.declared.request.Request.TheVariants.{Format}
-use Rattle.mf_history.specs.Asking.{shows_counts}
 use Rattle.mf_history.specs.Numbers.{Names}
 use Rattle.mf_history.specs.Places.{served_at, Goes, IsStuck, Moves, StandsAs}
 use Rattle.mf_history.specs.Served.{IsServed}
@@ -23,7 +22,7 @@ use Rattle.mf_history.specs.declared.front.Front.{Front}
 use Rattle.mf_history.specs.declared.place.Place.{Place}
 use Rattle.mf_history.proofs.Cases.{answered}
 use Rattle.mf_history.proofs.Lines.{answer_names}
-use Rattle.mf_history.proofs.Shown.{others_show}
+use Rattle.mf_transcript.proofs.Shown.{others_show}
 use Rattle.mf_history.proofs.Standing.{moved, stands_at}
 use Rattle.mf_answer.specs.Answers as answers
 use Rattle.mf_answer.specs.Answers.{Answer}

@@ -18,7 +18,7 @@ use Rattle.mf_history.specs.declared.front.Front.{Front}
 use Rattle.mf_history.specs.declared.numbers.Counts.{Counts}
 use Rattle.mf_history.specs.declared.place.Place.{Place}
 use Rattle.mf_history.proofs.Cases.{counted}
-use Rattle.mf_history.proofs.Shown.{stat_shows}
+use Rattle.mf_transcript.proofs.Shown.{stat_shows}
 use Rattle.mf_history.proofs.Standing.{moved, stands_at}
 
 messages_upto : (log : List Entry) (k : ℕ) → messages_by (take k log) ≤ messages_by log

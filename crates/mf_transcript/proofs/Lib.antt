@@ -1,4 +1,6 @@
 pub mod Written
+pub mod Decimals
+pub mod Shown
 pub mod Fixed
 pub mod Cases
 pub mod Numbered

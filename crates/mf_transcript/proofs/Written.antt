@@ -15,7 +15,7 @@ use Rattle.mf_wire.specs.declared.reply.Reply.TheVariants.{Accepted, Formatted, 
 use Rattle.mf_transcript.specs.Laws.{RepliesDiffer}
 use Rattle.mf_transcript.specs.Replies.{answer_reply}
 
-same_byte : (a b : ℕ) (found : Option ℕ) → found ≡ Some a → found ≡ Some b → a ≡ b
+pub same_byte : (a b : ℕ) (found : Option ℕ) → found ≡ Some a → found ≡ Some b → a ≡ b
 same_byte a b found one other = cc
 
 -- lines with different bytes at a place differ
@@ -54,10 +54,10 @@ pub store_uses : (used size : ℕ) → Uses size used (reply_line (StoreFull use
 unfolding escape_byte
 store_uses used size = record { early = refl; late = refl; numbers = refl }
 
-same_head : (a b : ℕ) (others more : List ℕ) → a ∷ others ≡ b ∷ more → a ≡ b
+pub same_head : (a b : ℕ) (others more : List ℕ) → a ∷ others ≡ b ∷ more → a ≡ b
 same_head a b others more same = cc
 
-same_tail : (a b : ℕ) (others more : List ℕ) → a ∷ others ≡ b ∷ more → others ≡ more
+pub same_tail : (a b : ℕ) (others more : List ℕ) → a ∷ others ≡ b ∷ more → others ≡ more
 same_tail a b others more same = cc
 
 -- digits before such a byte are the same where the whole is

@@ -1,5 +1,5 @@
 -- The replies to what a line asks for, and the lines that they are.
-use Rattle.std.specs.Prelude.{◌≡◌, ℕ, List}
+use Rattle.std.specs.Prelude.{◌≡◌, ℕ, Bool, true, false, List}
 use Rattle.mf_lint.specs.Lint.{Lints}
 use Rattle.mf_lint.specs.declared.linting.Linted.{Linted}
 use Rattle.mf_lint.specs.declared.linting.Linted.TheVariants.{Invalid, Valid}
@@ -9,7 +9,7 @@ use Rattle.mf_edition.specs.declared.error.Refusal.{Refusal}
 use Rattle.mf_edition.specs.declared.error.Refusal.TheVariants as refused
 use Rattle.mf_wire.specs.Replies.{reply_line}
 use Rattle.mf_wire.specs.declared.reply.Reply.{Reply}
-use Rattle.mf_wire.specs.declared.reply.Reply.TheVariants.{EditionsFull, Formatted, LintInvalid, LintValid, NoMessage, NotYet, StoreFull, TooLong}
+use Rattle.mf_wire.specs.declared.reply.Reply.TheVariants.{Accepted, BadHandler, BadJson, BadLocale, BadRequest, EditionsFull, Formatted, LintInvalid, LintValid, NoMessage, NotYet, Stat, StoreFull, TooLong}
 
 -- a refusal of a publication
 abbrev pub refusal_reply : Refusal → Reply
@@ -45,3 +45,20 @@ pub record IsLineOf (IsDue : Reply → Type 0) (line : List ℕ) : Type 0 where
   pub reply : Reply
   pub due : IsDue reply
   pub written : line ≡ reply_line reply
+
+-- whether a reply has the counts of an edition
+abbrev pub shows_counts : Reply → Bool
+shows_counts (Stat k starts quits) = true
+shows_counts (Accepted k op) = false
+shows_counts (Formatted k tag parts faults) = false
+shows_counts (LintValid source) = false
+shows_counts (LintInvalid faults) = false
+shows_counts BadJson = false
+shows_counts (BadRequest field) = false
+shows_counts (BadLocale field rule) = false
+shows_counts (BadHandler reason) = false
+shows_counts (EditionsFull entries) = false
+shows_counts (StoreFull used size) = false
+shows_counts (NoMessage k) = false
+shows_counts (NotYet k since) = false
+shows_counts (TooLong k) = false

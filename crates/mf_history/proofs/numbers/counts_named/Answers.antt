@@ -1,5 +1,5 @@
 use Rattle.std.proofs.Common.{Some, ◌∙◌}
-use Rattle.mf_history.proofs.Lines.{stat_line}
+use Rattle.mf_transcript.proofs.Shown.{stat_line}
 use Rattle.mf_history.proofs.numbers.counts_named.Goals as goal
 
 pub returns-in_err-edition : goal.returns-in_err-edition

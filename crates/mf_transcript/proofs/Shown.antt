@@ -1,5 +1,5 @@
 -- Which replies show quits, and how many.
-use Rattle.std.proofs.Common.{◌≡◌, ◌∙◌, ℕ, ◌<◌, ◌≤◌, ◌^◌, false, List, ◌∷◌, ◌++◌, Option, Some, None, slice_get, codes, refl, ap, sym, arith}
+use Rattle.std.proofs.Common.{◌≡◌, ◌∙◌, ℕ, ◌<◌, ◌≤◌, ◌^◌, false, List, ◌∷◌, ◌++◌, [], Some, None, slice_get, codes, refl, ap, sym, arith}
 use Rattle.std.specs.Fmt.{decimal}
 use Rattle.std.proofs.lemmas.List.{append_cancel_left}
 use Rattle.json.specs.Print.{escape_byte}
@@ -8,12 +8,17 @@ use Rattle.mf_wire.specs.declared.reply.Op.TheVariants.{Publish, Locale, Handler
 use Rattle.mf_wire.specs.declared.reply.Reply.{Reply}
 use Rattle.mf_wire.specs.declared.reply.Reply.TheVariants.{Accepted, Formatted, LintValid, LintInvalid, Stat, BadJson, BadRequest, BadLocale, BadHandler, EditionsFull, StoreFull, NoMessage, NotYet, TooLong}
 use Rattle.mf_transcript.specs.Lines.{ShowsAtMost}
-use Rattle.mf_history.specs.Asking.{shows_counts}
-use Rattle.mf_history.proofs.Digits.{decimal_digits, decimal_once, same_parts}
-use Rattle.mf_history.proofs.Lines.{stat_line, stat_rest}
+use Rattle.mf_transcript.specs.Replies.{shows_counts}
+use Rattle.mf_transcript.proofs.Decimals.{decimal_digits, decimal_once, same_parts}
+use Rattle.mf_transcript.proofs.Written.{same_byte}
 
-same_byte : (a b : ℕ) (found : Option ℕ) → found ≡ Some a → found ≡ Some b → a ≡ b
-same_byte a b found one other = cc
+-- behind the comma that follows the edition
+abbrev pub stat_rest : ℕ → ℕ → List ℕ
+stat_rest starts quits = codes "\"ok\":\"stat\",\"quits\":" ++ (decimal quits ++ 44 ∷ (codes "\"starts\":" ++ (decimal starts ++ 125 ∷ [])))
+
+pub stat_line : (k starts quits : ℕ) → reply_line (Stat k starts quits) ≡ codes "{\"edition\":" ++ (decimal k ++ 44 ∷ stat_rest starts quits)
+unfolding escape_byte
+stat_line k starts quits = refl
 
 -- a line with another early byte has no counts
 apart_early : (said : List ℕ) (a : ℕ) → slice_get said 3 ≡ Some a → (a ≡ 100 → ⊥) → (most : ℕ) → ShowsAtMost most said
