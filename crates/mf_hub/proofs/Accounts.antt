@@ -154,7 +154,7 @@ publishes s t n change told valid step given =
     }
 
 -- a caller's entries, counted in two words
-made_is : (n : ℕ) (log : List Entry) → made_by n log ≡ entries_by caller_of n log
+pub made_is : (n : ℕ) (log : List Entry) → made_by n log ≡ entries_by caller_of n log
 made_is n [] = refl
 made_is n (entry ∷ log) = let h = made_is n log in let o = ones (entry.caller == n) in omega arith
   where

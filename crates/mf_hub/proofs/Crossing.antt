@@ -108,16 +108,16 @@ range_sync : IsSync range.the_row
 range_sync = search (sendable, crosses) depth 30 fits 20000
 
 relation_send : IsSend relation.the_row
-relation_send = search (sendable, crosses, list_send, range_send, quantity_send) depth 30 fits 20000
+relation_send = search (sendable, crosses, range_send) depth 30 fits 20000
 
 relation_sync : IsSync relation.the_row
-relation_sync = search (sendable, crosses, list_sync, range_sync, quantity_sync) depth 30 fits 20000
+relation_sync = search (sendable, crosses, range_sync) depth 30 fits 20000
 
 rule_send : IsSend rule.the_row
-rule_send = search (sendable, crosses, list_send, relation_send, category_send) depth 30 fits 20000
+rule_send = search (sendable, crosses, list_send, relation_send) depth 30 fits 20000
 
 rule_sync : IsSync rule.the_row
-rule_sync = search (sendable, crosses, list_sync, relation_sync, category_sync) depth 30 fits 20000
+rule_sync = search (sendable, crosses, list_sync, relation_sync) depth 30 fits 20000
 
 layout_send : IsSend layout.the_row
 layout_send = search (sendable, crosses, text_send) depth 30 fits 20000
@@ -132,10 +132,10 @@ tag_sync : IsSync tag.the_row
 tag_sync = search (sendable, crosses, text_sync) depth 30 fits 20000
 
 locale_send : IsSend locale.the_row
-locale_send = search (sendable, crosses, list_send, rule_send, layout_send, direction_send) depth 30 fits 20000
+locale_send = search (sendable, crosses, rule_send) depth 30 fits 20000
 
 locale_sync : IsSync locale.the_row
-locale_sync = search (sendable, crosses, list_sync, rule_sync, layout_sync, direction_sync) depth 30 fits 20000
+locale_sync = search (sendable, crosses, rule_sync) depth 30 fits 20000
 
 shared_locale_send : IsSend shared_locale.the_row
 shared_locale_send = search (sendable, crosses, locale_send, locale_sync) depth 30 fits 20000
@@ -156,40 +156,40 @@ identifier_sync : IsSync identifier.the_row
 identifier_sync = search (sendable, crosses, name_sync) depth 30 fits 20000
 
 operand_send : IsSend operand.the_row
-operand_send = search (sendable, crosses, text_send, name_send) depth 30 fits 20000
+operand_send = search (sendable, crosses, text_send) depth 30 fits 20000
 
 operand_sync : IsSync operand.the_row
-operand_sync = search (sendable, crosses, text_sync, name_sync) depth 30 fits 20000
+operand_sync = search (sendable, crosses, text_sync) depth 30 fits 20000
 
 option_value_send : IsSend option_value.the_row
-option_value_send = search (sendable, crosses, text_send, name_send) depth 30 fits 20000
+option_value_send = search (sendable, crosses, text_send) depth 30 fits 20000
 
 option_value_sync : IsSync option_value.the_row
-option_value_sync = search (sendable, crosses, text_sync, name_sync) depth 30 fits 20000
+option_value_sync = search (sendable, crosses, text_sync) depth 30 fits 20000
 
 option_node_send : IsSend option_node.the_row
-option_node_send = search (sendable, crosses, identifier_send, option_value_send) depth 30 fits 20000
+option_node_send = search (sendable, crosses) depth 30 fits 20000
 
 option_node_sync : IsSync option_node.the_row
-option_node_sync = search (sendable, crosses, identifier_sync, option_value_sync) depth 30 fits 20000
+option_node_sync = search (sendable, crosses) depth 30 fits 20000
 
 attribute_send : IsSend attribute.the_row
-attribute_send = search (sendable, crosses, identifier_send, text_send) depth 30 fits 20000
+attribute_send = search (sendable, crosses, text_send) depth 30 fits 20000
 
 attribute_sync : IsSync attribute.the_row
-attribute_sync = search (sendable, crosses, identifier_sync, text_sync) depth 30 fits 20000
+attribute_sync = search (sendable, crosses, text_sync) depth 30 fits 20000
 
 call_send : IsSend call.the_row
-call_send = search (sendable, crosses, identifier_send, list_send, option_node_send) depth 30 fits 20000
+call_send = search (sendable, crosses, option_node_send) depth 30 fits 20000
 
 call_sync : IsSync call.the_row
-call_sync = search (sendable, crosses, identifier_sync, list_sync, option_node_sync) depth 30 fits 20000
+call_sync = search (sendable, crosses, option_node_sync) depth 30 fits 20000
 
 expression_send : IsSend expression.the_row
-expression_send = search (sendable, crosses, operand_send, call_send, list_send, attribute_send) depth 30 fits 20000
+expression_send = search (sendable, crosses, call_send, attribute_send) depth 30 fits 20000
 
 expression_sync : IsSync expression.the_row
-expression_sync = search (sendable, crosses, operand_sync, call_sync, list_sync, attribute_sync) depth 30 fits 20000
+expression_sync = search (sendable, crosses, call_sync, attribute_sync) depth 30 fits 20000
 
 form_send : IsSend form.the_row
 form_send = search (sendable, crosses) depth 30 fits 20000
@@ -198,10 +198,10 @@ form_sync : IsSync form.the_row
 form_sync = search (sendable, crosses) depth 30 fits 20000
 
 markup_send : IsSend markup.the_row
-markup_send = search (sendable, crosses, form_send, identifier_send, list_send, option_node_send, attribute_send) depth 30 fits 20000
+markup_send = search (sendable, crosses, option_node_send, attribute_send) depth 30 fits 20000
 
 markup_sync : IsSync markup.the_row
-markup_sync = search (sendable, crosses, form_sync, identifier_sync, list_sync, option_node_sync, attribute_sync) depth 30 fits 20000
+markup_sync = search (sendable, crosses, option_node_sync, attribute_sync) depth 30 fits 20000
 
 piece_send : IsSend piece.the_row
 piece_send = variants_send piece.enum ((text_send, tt), ((expression_send, tt), ((markup_send, tt), tt)))
@@ -246,10 +246,10 @@ kind_sync : IsSync kind.the_row
 kind_sync = search (sendable, crosses) depth 30 fits 20000
 
 fault_send : IsSend fault.the_row
-fault_send = search (sendable, crosses, kind_send, text_send) depth 30 fits 20000
+fault_send = search (sendable, crosses, text_send) depth 30 fits 20000
 
 fault_sync : IsSync fault.the_row
-fault_sync = search (sendable, crosses, kind_sync, text_sync) depth 30 fits 20000
+fault_sync = search (sendable, crosses, text_sync) depth 30 fits 20000
 
 plan_send : IsSend plan.the_row
 plan_send = variants_send plan.enum ((list_send fault.the_row fault_send, tt), ((message_send, tt), tt))
@@ -276,10 +276,10 @@ item_sync : IsSync item.the_row
 item_sync = search (sendable, crosses) depth 30 fits 20000
 
 catalogue_send : IsSend catalogue.the_row
-catalogue_send = search (sendable, crosses, tag_send, tag_sync, item_send, item_sync) depth 30 fits 20000
+catalogue_send = search (sendable, crosses, tag_send, item_send, item_sync) depth 30 fits 20000
 
 catalogue_sync : IsSync catalogue.the_row
-catalogue_sync = search (sendable, crosses, tag_sync, item_sync, tag_send, item_send) depth 30 fits 20000
+catalogue_sync = search (sendable, crosses, tag_sync, item_sync, item_send) depth 30 fits 20000
 
 handler_send : IsSend handler.the_row
 handler_send = declared_send handler.the_type (identifier_send, (def_send, tt))
@@ -324,16 +324,16 @@ handlers_sync : IsSync handlers.the_row
 handlers_sync = search (sendable, crosses, shared_handler_sync) depth 30 fits 20000
 
 edition_send : IsSend edition.the_row
-edition_send = search (sendable, crosses, item_send, item_sync, records_send, records_sync, handlers_send, handlers_sync, shared_locale_send, shared_locale_sync) depth 30 fits 20000
+edition_send = search (sendable, crosses, item_send, item_sync, records_send, handlers_send, shared_locale_send) depth 30 fits 20000
 
 edition_sync : IsSync edition.the_row
-edition_sync = search (sendable, crosses, item_sync, records_sync, handlers_sync, shared_locale_sync, item_send, records_send, handlers_send, shared_locale_send) depth 30 fits 20000
+edition_sync = search (sendable, crosses, item_sync, records_sync, handlers_sync, shared_locale_sync, item_send) depth 30 fits 20000
 
 state_send : (P : RattleType) → IsSend P → IsSend (state.the_row P)
 state_send P send = search (sendable, crosses, maps.crosses) depth 30
 
 slot_send : (P : RattleType) → IsSend P → IsSend (slot.the_row P)
-slot_send P send = search (sendable, crosses, maps.crosses, state_send) depth 30
+slot_send P send = search (sendable, crosses, maps.crosses) depth 30
 
 sheet_send : (P : RattleType) → IsSend P → IsSend (sheet.the_row P)
 sheet_send P send = search (sendable, crosses, maps.crosses, slot_send) depth 30

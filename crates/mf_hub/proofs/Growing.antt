@@ -15,7 +15,7 @@ use Rattle.mf_turn.specs.Sums.{StartsWith}
 use Rattle.mf_turn.specs.Taught.{Counted, Teaches}
 use Rattle.mf_turn.proofs.Lists.{append_nil}
 use Rattle.mf_turn.proofs.Numbers.{entries_by-append}
-use Rattle.mf_hub.specs.Passes.{most_made, Grows, Inherits, IsFresh, IsFull, Known, Learns, Publishes, Sees}
+use Rattle.mf_hub.specs.Passes.{most_made, Grows, Inherits, IsFresh, IsFull, Keeps, Known, Learns, Publishes, Sees}
 use Rattle.mf_hub.specs.Stores.{caller_of, nth_of, IsFullAt}
 
 -- what begins a log, as many of a caller's entries being in either
@@ -36,7 +36,7 @@ module _ (x : Account Entry) (v : Known) (t : Teaches caller_of nth_of x v) wher
   pub sees : Sees v x.log
   sees = sees_of v x.log t.seen t.made t.own
 
-  known_grows : v.known ≤ x.joined - 1
+  pub known_grows : v.known ≤ x.joined - 1
   known_grows = let h = t.known in omega arith
 
   -- after a turn in which it took x, whatever its pin is
@@ -161,6 +161,9 @@ grows_through p q u a b = record {
   heard = let x = a.heard in let y = b.heard in omega arith;
   served = λ pair has. b.served pair (a.served pair has);
 }
+
+pub keeps_through : (p q u : Known) → Keeps p q → Keeps q u → Keeps p u
+keeps_through p q u a b = record { given = b.given ∙ a.given; ended = b.ended ∙ a.ended }
 
 publishes_through : (p q u : Known) (change : Change) (edition : ℕ) → Grows p q → Publishes change edition q u → Publishes change edition p u
 publishes_through p q u change edition a b = record {

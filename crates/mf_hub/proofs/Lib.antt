@@ -1,9 +1,11 @@
 pub mod Ready
 pub mod Sums
 pub mod Accounts
+pub mod Claims
 pub mod Storing
 pub mod Growing
 pub mod Turned
+pub mod Seats
 pub mod Closing
 pub mod Compiled
 pub mod Desks

@@ -16,7 +16,8 @@ use Rattle.mf_turn.specs.Acts.{after, caught_up, joined_with, with_raised, Fixes
 use Rattle.mf_turn.specs.Standing.{Standing}
 use Rattle.mf_turn.specs.Sums.{StartsWith}
 use Rattle.mf_turn.specs.Taught.{Counted, Teaches}
-use Rattle.mf_turn.proofs.Lists.{starts_itself, starts_through}
+use Rattle.mf_turn.proofs.Lists.{one_if-same, starts_itself, starts_through}
+use Rattle.mf_turn.proofs.Numbers.{entries_by-append}
 use Rattle.mf_hub.specs.Held.{HoldsPinned, IsPass}
 use Rattle.mf_hub.specs.Passes.{Grows, Known}
 use Rattle.mf_hub.specs.Stores.{account_of, caller_of, nth_of, world_of, IsMade, IsTurn, Stands, Stored}
@@ -73,6 +74,7 @@ module _ (seat w : Standing Stored Entry) (x : Stored) (t : Teaches caller_of nt
       quiet = ap (λ (v : Known). v.raised) same ∙ is.quiet;
       leaving = ap (λ (v : Known). v.leaving) same ∙ is.leaving;
       claim = ap (λ (v : Known). v.claim) same ∙ is.claim;
+      made = subst (λ (v : Known). entries_by caller_of number v.log ≡ v.made) (sym same) (t.made number is.number_is);
       pin = subst (HoldsPinned pinned) (sym same) (holds_still pinned seat.view (caught_up seat.view (account_of x)) t.seen refl is.pin);
     }
 
@@ -87,6 +89,7 @@ module _ (seat w : Standing Stored Entry) (x : Stored) (t : Teaches caller_of nt
       quiet = ap (λ (v : Known). v.raised) same ∙ is.quiet;
       leaving = ap (λ (v : Known). v.leaving) same ∙ is.leaving;
       claim = ap (λ (v : Known). v.claim) same ∙ is.claim;
+      made = subst (λ (v : Known). entries_by caller_of number v.log ≡ v.made) (sym same) (t.made number is.number_is);
       pin = subst (HoldsPinned held) (sym same) holds;
     }
 
@@ -147,9 +150,19 @@ module _ (seat w : Standing Stored Entry) (x : Stored) (t : Teaches caller_of nt
             quiet = ap (λ (v : Known). v.raised) same;
             leaving = ap (λ (v : Known). v.leaving) same ∙ is.leaving;
             claim = ap (λ (v : Known). v.claim) same ∙ is.claim;
+            made = subst (λ (v : Known). entries_by caller_of number v.log ≡ v.made) (sym same) one_more;
             pin = subst (HoldsPinned pinned) (sym same)
                 (holds_still pinned seat.view v (starts_through v.log (world_of x).log seat.view.log (e ∷ [], refl) t.seen) refl is.pin);
           }
+        where
+          one_more : entries_by caller_of number ((world_of x).log ++ next_entry number (entries_by caller_of number (world_of x).log) change ∷ [])
+              ≡ seat.view.made + 1
+          one_more =
+              let e = next_entry number (entries_by caller_of number (world_of x).log) change in
+              let a = entries_by-append caller_of number (world_of x).log (e ∷ []) in
+              let b = one_if-same number in
+              let c = t.made number is.number_is in
+              omega arith
 
   -- an edition that was made when less had been seen, or as much
   pub made_still : (change : Change) (edition : EditionState) → edition ≡ next_edition (newest_edition seat.view.log) change
@@ -177,6 +190,7 @@ pass_counted seat u number count pinned is free c = record {
   quiet = ap (λ (v : Known). v.raised) c.kept ∙ is.quiet;
   leaving = ap (λ (v : Known). v.leaving) c.kept ∙ is.leaving;
   claim = ap (λ (v : Known). v.claim) c.kept ∙ is.claim;
+  made = c.made number is.number_is ∙ sym (ap (λ (v : Known). v.made) c.kept);
   pin = holds_still pinned seat.view u.view c.seen (ap (λ (v : Known). v.pin) c.kept) is.pin;
 }
 
@@ -190,6 +204,7 @@ module _ (seat u : Standing Stored Entry) (number : ℕ) (pinned : Option (Arc E
     quiet = ap (λ (v : Known). v.raised) c.kept ∙ is.quiet;
     leaving = ap (λ (v : Known). v.leaving) c.kept ∙ none;
     claim = ap (λ (v : Known). v.claim) c.kept ∙ is.claim;
+    made = c.made number is.number_is ∙ sym (ap (λ (v : Known). v.made) c.kept);
     pin = holds_still pinned seat.view u.view c.seen (ap (λ (v : Known). v.pin) c.kept) is.pin;
   }
 
@@ -205,5 +220,6 @@ module _ (seat u : Standing Stored Entry) (number : ℕ) (pinned : Option (Arc E
         quiet = ap (λ (v : Known). v.raised) same ∙ is.quiet;
         leaving = ap (λ (v : Known). v.leaving) same;
         claim = ap (λ (v : Known). v.claim) same ∙ is.claim;
+        made = subst (λ (v : Known). entries_by caller_of number v.log ≡ v.made) (sym same) (t.made number is.number_is);
         pin = subst (HoldsPinned pinned) (sym same) (holds_still pinned seat.view v t.seen refl is.pin);
       }

@@ -1,10 +1,13 @@
 -- What the calls of a hub promise of a pass: of what its caller knew before and knows after.
-use Rattle.std.specs.Prelude.{◌≡◌, ◌+◌, ◌≤◌, ℕ, List, [], ◌∷◌, ◌++◌, length, Contains, None, Some}
+use Rattle.std.specs.Prelude.{◌≡◌, ◌+◌, ◌^◌, ◌<◌, ◌≤◌, ℕ, List, [], ◌∷◌, ◌++◌, length, Contains, None, Some}
 use Rattle.atomic_table.specs.Seated.{TableId}
+use Rattle.mf_edition.specs.Edition.{edition_of, newest_edition}
 use Rattle.mf_edition.specs.declared.change.Change.{Change}
 use Rattle.mf_edition.specs.declared.change.Entry.{Entry}
 use Rattle.mf_io.specs.declared.passes.PassError.{PassError}
 use Rattle.mf_io.specs.declared.passes.PassError.TheVariants.{CallersFull, OutOfMemory}
+use Rattle.mf_plan.specs.declared.plan.Plan.{Plan}
+use Rattle.mf_transcript.specs.Served.{count_among, in_edition}
 use Rattle.mf_transcript.specs.Steps.{next_entry}
 use Rattle.mf_turn.specs.Account.{entries_by}
 use Rattle.mf_turn.specs.Acts.{left_behind}
@@ -14,6 +17,8 @@ use Rattle.mf_turn.specs.declared.view.Ended.{Ended}
 use Rattle.mf_turn.specs.declared.view.View.{View}
 use Rattle.mf_hub.specs.declared.error.CloseError.{CloseError}
 use Rattle.mf_hub.specs.declared.error.CloseError.TheVariants.{Others}
+use Rattle.mf_hub.specs.declared.stat.Stat.{Stat}
+use Rattle.mf_hub.specs.Desks.{IsPlanAt}
 use Rattle.mf_hub.specs.Stores.{caller_of}
 
 -- what a caller knows: its number, the entries that it has seen, how many of them are its own, the edition that it has pinned, how
@@ -26,6 +31,10 @@ Known = View Entry
 pub record PassState : Type 0 where
   pub hub : TableId
   pub view : Known
+
+-- the log that it has seen has all entries that it made
+abbrev pub HasMadeAll : Known → Type 0
+HasMadeAll p = (n : ℕ) → p.number ≡ Some n → entries_by caller_of n p.log ≡ p.made
 
 -- the caller has seen no less, and no new entry of its own
 pub record Sees (p : Known) (log : List Entry) : Type 0 where
@@ -76,6 +85,35 @@ pub record Publishes (change : Change) (number : ℕ) (p q : Known) : Type 0 whe
 -- the most passes that may be made from another
 abbrev pub most_made : ℕ
 most_made = 1000000
+
+-- the caller has pinned an edition that has a message at this index
+pub record HasMessage (index : ℕ) (p : Known) : Type 0 where
+  pub pinned_at : ℕ
+  pub pinned : p.pin ≡ Some pinned_at
+  pub inside : index < length (edition_of p.log pinned_at).items
+
+-- it got the plan of that message, which it was served with
+pub record Gets (index : ℕ) (plan : Plan) (p q : Known) : Type 0 where
+  pub pinned_at : ℕ
+  pub pinned : p.pin ≡ Some pinned_at
+  pub plan_is : IsPlanAt (edition_of q.log pinned_at) index plan
+  pub served : Contains q.served (pinned_at, index)
+  pub given : q.given ≡ p.given
+
+-- it has no claim, and gave at most one ticket back
+pub record GivesUp (p q : Known) : Type 0 where
+  pub claim : q.claim ≡ None
+  pub least : p.given ≤ q.given
+  pub most : q.given ≤ p.given + 1
+
+-- the counts of the newest edition: as starts no fewer than the quits and the messages that the caller was served from it, and no
+-- more than the quits and the messages that there are; and it was told of so many quits
+pub record Tells (stat : Stat) (q : Known) : Type 0 where
+  pub edition_is : stat.edition ≡ length q.log
+  pub least : stat.quits + count_among (in_edition (length q.log) q.served) (length (newest_edition q.log).items) ≤ stat.starts
+  pub most : stat.starts ≤ stat.quits + length (newest_edition q.log).items
+  pub heard : stat.quits ≤ q.heard
+  pub small : stat.quits < 2 ^ 64
 
 -- what a pass knows that was made from another: a number of its own, which is that of the callers that it knows to have joined
 -- after the first

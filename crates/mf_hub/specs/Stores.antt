@@ -1,5 +1,5 @@
 -- The value that the callers of a hub share: the World that the core's steps lead on, and how many tickets were ever given back.
-use Rattle.std.specs.Prelude.{◌≡◌, ◌⊎◌, ◌==◌, ◌&&◌, not, ◌+◌, ◌^◌, ◌<◌, ◌≤◌, ℕ, List, length, Some}
+use Rattle.std.specs.Prelude.{◌≡◌, ◌⊎◌, ◌==◌, ◌&&◌, not, ◌+◌, ◌^◌, ◌<◌, ◌≤◌, ℕ, List, length, Some, true}
 use Rattle.std.specs.Arc.{arc_value}
 use Rattle.std.specs.declared.alloc.Global.{Global}
 use Rattle.std.specs.declared.sync.Arc.{Arc}
@@ -18,9 +18,12 @@ use Rattle.mf_io.specs.declared.passes.PassError.{PassError}
 use Rattle.mf_io.specs.declared.passes.PassError.TheVariants.{CallersFull, OutOfMemory}
 use Rattle.mf_legal.specs.Calls.{one_if}
 use Rattle.mf_plan.specs.declared.plan.Plan.{Plan}
-use Rattle.mf_turn.specs.Account.{Account}
+use Rattle.mf_turn.specs.Account.{Account, Changes}
 use Rattle.mf_hub.specs.Desks.{IsPlanAt}
 use Rattle.mf_hub.specs.Kept.{is_ready_state}
+use Rattle.mf_hub.specs.declared.got.Got.{Got}
+use Rattle.mf_hub.specs.declared.got.Got.TheVariants.{Claimed, Ready}
+use Rattle.mf_hub.specs.declared.stat.Stat.{Stat}
 
 pub record Stored : Type 0 where
   pub board : Board (Arc Plan Global)
@@ -100,3 +103,25 @@ pub record IsStore (board : Board (Arc Plan Global)) (newest : Arc EditionState 
   pub newest_is : arc_value newest ≡ newest_edition board.log
   pub plans : HasPlans board
   pub quits : HasQuits (board_world board) given
+
+-- what asking for a message gets where nobody compiles it: its plan where it is ready, or else the claim on it, which is a step
+abbrev pub GetsOf : ℕ → ℕ → ℕ → Stored → Stored → Got → Type 0
+GetsOf caller edition index before after (Ready plan) =
+    Stands before after × IsPlanAt (edition_of (world_of before).log edition) index (arc_value plan)
+    × ((account_of before).ready edition index ≡ true)
+GetsOf caller edition index before after (Claimed ticket) =
+    (ticket ≡ (edition, index)) × IsStep (world_of before) (world_of after)
+    × Changes caller (Some edition) (Some (edition, index)) 0 (account_of before) (account_of after)
+
+-- how many messages of the newest edition are ready
+abbrev pub ready_count : Stored → ℕ
+ready_count s =
+    sum_below (λ i. one_if ((account_of s).ready (length (world_of s).log) i)) (length (newest_edition (world_of s).log).items)
+
+-- the counts of the newest edition: its number, quits that are no more than tickets were given back, and starts
+pub record IsCount (stat : Stat) (s : Stored) : Type 0 where
+  pub edition_is : stat.edition ≡ length (world_of s).log
+  pub given : stat.quits ≤ s.given
+  pub small : stat.quits < 2 ^ 64
+  pub least : stat.quits + ready_count s ≤ stat.starts
+  pub most : stat.starts ≤ stat.quits + length (newest_edition (world_of s).log).items

@@ -22,8 +22,8 @@ use std::sync::{Arc, Wait};
 /// A log that callers publish to at once, with its newest edition, seen as its name, which its passes have too.
 #[derive(Drop)]
 pub struct Hub {
-    alloc: Global,
-    turn: Turn<Store>,
+    pub(crate) alloc: Global,
+    pub(crate) turn: Turn<Store>,
 }
 
 impl Model for Hub {
@@ -52,7 +52,7 @@ impl Hub {
     }
 
     /// Gives the value back, to which `act` was done: one step of the core, or nothing.
-    fn end(&self, seat: &mut Seat<Store>, store: Store, act: Act)
+    pub(crate) fn end(&self, seat: &mut Seat<Store>, store: Store, act: Act)
         requires own { seat.old.turn ≡ self.now }
         requires core { HasSome seat.old.taken (λ x. IsTurn x store) }
         requires may { HasSome seat.old.taken (λ x. MayEnd act (account_of x) (account_of store) seat.old.view) }

@@ -4,8 +4,10 @@
 mod alone;
 mod compiling;
 mod error;
+mod got;
 mod hub;
 mod pass;
+mod planning;
 mod stat;
 mod store;
 

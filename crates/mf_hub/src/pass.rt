@@ -1,5 +1,6 @@
 //! What a caller holds of a hub.
-ghost use Rattle.std.specs.Prelude.{◌≡◌, length, Some};
+ghost use Rattle.std.specs.Prelude.{◌≡◌, length, None, Some};
+ghost use Rattle.mf_hub.specs.Passes.{HasMadeAll};
 
 use crate::store::Store;
 use mf_edition::Edition;
@@ -35,6 +36,14 @@ impl Pass {
         ensures { self.now.view.number ≡ Some result }
     {
         self.number
+    }
+
+    /// Between two calls the caller has no claim, and its entries are among those that it has seen.
+    pub fn is_at_rest(&self)
+        ensures claim { self.now.view.claim ≡ None }
+        ensures made { HasMadeAll self.now.view }
+    {
+        let _ = &self.seat;
     }
 
     /// How many entries of the log the caller has seen, which is the number of the newest edition that it knows of.

@@ -1,15 +1,19 @@
 //! The value that the callers of a hub share.
-ghost use Rattle.std.specs.Prelude.{◌≡◌, ◌<◌, ◌≤◌, ℕ, length, true, false, None, Some, Err, IfErr, IfOk, IsSome, OnErr, OnOk};
+ghost use Rattle.std.specs.Prelude.{◌≡◌, ◌<◌, ◌≤◌, ℕ, length, true, false, None, Some, Err, IfErr, IfNone, IfOk, IfSome, IsSome, OnErr, OnOk};
 ghost use Rattle.std.specs.Arc.{arc_value};
 ghost use Rattle.mf_core.specs.Steps.{most_callers};
-ghost use Rattle.mf_edition.specs.Edition.{newest_edition, next_edition, HasRoom};
+ghost use Rattle.mf_edition.specs.Edition.{edition_of, newest_edition, next_edition, HasRoom};
 ghost use Rattle.mf_edition.specs.Sizes.{most_entries, refusal_of, IsDue};
-ghost use Rattle.mf_hub.specs.Stores.{account_of, caller_of, others_below, world_of, IsFirstStore, IsFullAt, IsMade, IsStep, Stands};
+ghost use Rattle.mf_hub.specs.Desks.{IsPlanAt};
+ghost use Rattle.mf_hub.specs.Stores.{account_of, caller_of, others_below, world_of, GetsOf, IsCount, IsFirstStore, IsFullAt, IsMade, IsStep, Stands};
 ghost use Rattle.mf_transcript.specs.Steps.{next_entry};
 ghost use Rattle.mf_turn.specs.Account.{entries_by, Changes, Joins, Leaves, Publishes};
 
+use crate::got::Got;
+use crate::stat::Stat;
 use mf_core::{Board, CoreError};
 use mf_edition::{Change, Edition, Entry, Log, PublishError, editions_follow, editions_stay};
+use mf_flight::{Asked, Spent, Ticket};
 use mf_io::PassError;
 use mf_plan::Plan;
 use mf_turn::Shared;
@@ -208,6 +212,67 @@ impl Store {
         ensures leaves { Leaves caller (account_of self.old) (account_of self.new) }
     {
         self.board.leave(caller);
+    }
+
+    /// A caller asks for a message of the edition that it has pinned: none where another compiles it. After an error all is as it
+    /// was.
+    pub(crate) fn ask(
+        &mut self,
+        caller: u64,
+        edition: u64,
+        index: u32,
+    ) -> Result<Option<Got>, AllocError>
+        requires joined { ((world_of self.old).caller caller).joined ≡ true }
+        requires free { ((world_of self.old).caller caller).claim ≡ None }
+        requires pinned { ((world_of self.old).caller caller).pinned ≡ Some edition }
+        requires inside { index < length (edition_of (world_of self.old).log edition).items }
+        ensures got { IfOk result (λ got. IfSome got (GetsOf caller edition index self.old self.new)) }
+        ensures busy { IfOk result (λ got. IfNone got (Stands self.old self.new)) }
+        ensures err { OnErr result (Stands self.old self.new) }
+    {
+        if let Some(plan) = self.board.plan(edition, index) {
+            let shared: Result<_, _> = plan.clone();
+            return Ok(Some(Got::Ready(shared?)));
+        }
+        match self.board.ask(caller, index)? {
+            Asked::Claimed(ticket) => Ok(Some(Got::Claimed(ticket))),
+            Asked::Busy => Ok(None),
+            Asked::Ready => unreachable!(),
+        }
+    }
+
+    /// The message that a caller has claimed is compiled to this plan.
+    pub(crate) fn done(&mut self, caller: u64, spent: Spent, plan: Arc<Plan>)
+        requires joined { ((world_of self.old).caller caller).joined ≡ true }
+        requires claim { ((world_of self.old).caller caller).claim ≡ Some spent }
+        requires plan { IsPlanAt (edition_of (world_of self.old).log spent.0) spent.1 (arc_value plan) }
+        ensures step { IsStep (world_of self.old) (world_of self.new) }
+        ensures done { Changes caller ((world_of self.old).caller caller).pinned None 0
+            (account_of self.old) (account_of self.new) }
+        ensures ready { (account_of self.new).ready spent.0 spent.1 ≡ true }
+    {
+        self.board.done(caller, spent, plan);
+    }
+
+    /// A caller gives back the ticket for the message that it has claimed.
+    pub(crate) fn quit(&mut self, caller: u64, ticket: Ticket)
+        requires joined { ((world_of self.old).caller caller).joined ≡ true }
+        requires claim { ((world_of self.old).caller caller).claim ≡ Some ticket }
+        ensures step { IsStep (world_of self.old) (world_of self.new) }
+        ensures quits { Changes caller ((world_of self.old).caller caller).pinned None 1
+            (account_of self.old) (account_of self.new) }
+    {
+        self.board.quit(caller, ticket);
+        self.given = self.given.saturating_add(1);
+    }
+
+    /// How far the messages of the newest edition are compiled.
+    pub(crate) fn stat(&self) -> Stat
+        ensures { IsCount result self.now }
+    {
+        let edition = self.board.log().len();
+        let (starts, quits) = self.board.totals(edition);
+        Stat::of(edition, starts, quits)
     }
 
     /// How many callers are joined beside this one.
