@@ -1,8 +1,9 @@
 //! A line answered at the desk of one caller.
-ghost use Rattle.std.specs.Prelude.{◌≡◌, Err, IfOk, OnErr, encode_utf8_all};
+ghost use Rattle.std.specs.Prelude.{◌≡◌, false, Err, IfOk, OnErr, encode_utf8_all};
 ghost use Rattle.std.specs.declared.result.Result.{Result};
 ghost use Rattle.mf_hub.specs.declared.stat.Stat.{Stat};
 ghost use Rattle.mf_session.specs.Turns.{stat_reply, Turn};
+ghost use Rattle.mf_transcript.specs.Replies.{shows_counts};
 ghost use Rattle.mf_wire.specs.Replies.{memory_line};
 ghost use Rattle.mf_wire.specs.Requests as refuses;
 ghost use Rattle.mf_wire.specs.declared.reply.Reply.{Reply};
@@ -44,7 +45,7 @@ pub(crate) fn answer(
 }
 
 /// The reply with these counts.
-fn stat_reply(stat: Stat) -> Reply
+pub(crate) fn stat_reply(stat: Stat) -> Reply
     ensures { result ≡ stat_reply stat }
 {
     let Stat {
@@ -61,8 +62,9 @@ fn stat_reply(stat: Stat) -> Reply
 
 /// The reply to a line that makes no request.
 pub fn refusal(error: WireError) -> Result<Reply, AllocError>
-    ensures { IfOk result (λ reply.
+    ensures due { IfOk result (λ reply.
         (asked : Result Request Reply) → refuses.IsDue asked error → asked ≡ Err reply) }
+    ensures plain { IfOk result (λ reply. shows_counts reply ≡ false) }
 {
     match error {
         WireError::BadJson => Ok(Reply::BadJson),

@@ -2,14 +2,18 @@
 #![tactic(auto)]
 
 mod alone;
+mod calls;
 mod checks;
 mod desk;
 mod format;
 pub mod laws;
 mod lint;
 mod publish;
+mod sentences;
+mod shared;
 
 pub use alone::session_alone;
 pub use checks::reason_against;
 pub use desk::refusal;
 pub use lint::lint_reply;
+pub use shared::session_shared;

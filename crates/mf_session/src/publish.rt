@@ -44,7 +44,7 @@ fn publish(alloc: Global, desk: &mut Alone, change: Change) -> Result<Text, Allo
 }
 
 /// The reply to a publication that isn't made.
-fn refused(error: PublishError) -> Result<Reply, AllocError>
+pub(crate) fn refused(error: PublishError) -> Result<Reply, AllocError>
     ensures reply { IfOk result (λ reply.
         (refusal : Refusal) → error ≡ refused refusal → reply ≡ refusal_reply refusal) }
     ensures cause { IfOk result (λ _. error ≢ PublishError.OutOfMemory) }

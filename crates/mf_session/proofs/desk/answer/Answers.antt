@@ -15,5 +15,5 @@ pub returns-in_ok-refusal-in-Err-clause-ok : goal.returns-in_ok-refusal-in-Err-c
 returns-in_ok-refusal-in-Err-clause-ok c =
     IfOk-weaker c.reply_line-in-Err.result _ _
     (λ said is. refuses c.args.line.now (encode_utf8_all said) c.args.desk.now _ c.in_ok-refusal-in-Err.field-0
-    (c.in_ok-refusal-in-Err.ensures (line_request c.args.line.now) c.in-Err.ensures.refused) is refl)
+    (c.in_ok-refusal-in-Err.ensures.due (line_request c.args.line.now) c.in-Err.ensures.refused) is refl)
     c.reply_line-in-Err.ensures
