@@ -73,18 +73,21 @@ fn count_of(word: &str) -> Option<u32>
     }
 }
 
-/// Does what the words after the program's name say. A fault is answered only where its object's count of faults rose.
+/// Does what the words after the program's name say. A fault is answered only where its object's
+/// count of faults rose.
 ///
-/// `pipe` answers each line of the input, with the publications of the lines before it. Its statuses are `Ended`, `ReadFault`,
-/// `WriteFault`, `LineTooLong` (a line has more than 1,048,576 bytes), `InputFull` (4,294,967,296 bytes came, and the end of the
-/// input wasn't told by then) and `OutOfMemory`, before anything was read. The lines in front of what stopped it are answered.
+/// `pipe` answers each line of the input, with the publications of the lines before it. Its
+/// statuses are `Ended`, `ReadFault`, `WriteFault`, `LineTooLong` (a line has more than 1,048,576
+/// bytes), `InputFull` (4,294,967,296 bytes came, and the end of the input wasn't told by then) and
+/// `OutOfMemory`, before anything was read. The lines in front of what stopped it are answered.
 ///
-/// `lint` reads the whole input as one source, and writes the line with its canonical form or its errors. Its statuses are
-/// `Ended`, `ReadFault`, `WriteFault`, `LineTooLong` (the input has more than 1,048,576 bytes) and `OutOfMemory` (before
-/// anything was read).
+/// `lint` reads the whole input as one source, and writes the line with its canonical form or its
+/// errors. Its statuses are `Ended`, `ReadFault`, `WriteFault`, `LineTooLong` (the input has more
+/// than 1,048,576 bytes) and `OutOfMemory` (before anything was read).
 ///
-/// `mill N`, N from 1 to 100,000, answers a script of N requests for sentences in memory, and writes the one line that sums the
-/// replies up. Its statuses are `Ended`, `WriteFault` and `OutOfMemory`, where nothing was written. It doesn't read the input.
+/// `mill N`, N from 1 to 100,000, answers a script of N requests for sentences in memory, and
+/// writes the one line that sums the replies up. Its statuses are `Ended`, `WriteFault` and
+/// `OutOfMemory`, where nothing was written. It doesn't read the input.
 ///
 /// Any other words are `Usage`.
 pub fn top<S: Source, K: Sink>(alloc: Global, words: &Texts, source: &mut S, sink: &mut K) -> Status

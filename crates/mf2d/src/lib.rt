@@ -1,4 +1,5 @@
-//! The commands of `mf2d`, a formatting server for Unicode MessageFormat 2.0, over any source and sink.
+//! The commands of `mf2d`, a formatting server for Unicode MessageFormat 2.0, over any source and
+//! sink.
 #![tactic(auto)]
 
 mod command;

@@ -1,5 +1,6 @@
 //! The program `mf2d_rows`: looks whether `pipe` answers the sessions of `sessions.txt` and of
-//! `formatting.txt`, which are the examples of docs/formatting.md, as they say, and prints each difference and how many there are.
+//! `formatting.txt`, which are the examples of docs/formatting.md, as they say, and prints each
+//! difference and how many there are.
 //!
 //! A session is a block of lines: a request stands behind `> `, its reply behind `< `. Blocks are
 //! separated by empty lines, and a line that begins with `# ` is a comment. Each session is

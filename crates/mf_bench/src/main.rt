@@ -3,10 +3,11 @@
 //! `bench/run` can time it.
 //!
 //! Its words are `read TEXT COUNT`, `round TEXT COUNT`, `exact TEXT COUNT`, `text TEXT COUNT`,
-//! `category TEXT COUNT RULES`, `number TEXT COUNT`, `options TEXT COUNT` (the same with four options), `shown TEXT COUNT`,
-//! `rank TEXT COUNT KEY`, `alias TEXT COUNT` and `affix TEXT COUNT` (with two presets), `table TEXT COUNT ENTRIES`,
-//! `variants SIZE COUNT` and `declarations SIZE COUNT`. It prints one line, a sum over the results, so that no call can be left
-//! out. After any other words it ends with status 1.
+//! `category TEXT COUNT RULES`, `number TEXT COUNT`, `options TEXT COUNT` (the same with four
+//! options), `shown TEXT COUNT`, `rank TEXT COUNT KEY`, `alias TEXT COUNT` and `affix TEXT COUNT`
+//! (with two presets), `table TEXT COUNT ENTRIES`, `variants SIZE COUNT` and `declarations SIZE
+//! COUNT`. It prints one line, a sum over the results, so that no call can be left out. After any
+//! other words it ends with status 1.
 #![tactic(auto)]
 
 mod call;

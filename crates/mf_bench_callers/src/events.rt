@@ -1,4 +1,5 @@
-//! The events of a mixed script: eight callers pin, ask two by two for one message, have it compiled or don't, and unpin.
+//! The events of a mixed script: eight callers pin, ask two by two for one message, have it
+//! compiled or don't, and unpin.
 ghost use Rattle.std.specs.Prelude.{IfOk};
 ghost use Rattle.mf_core.specs.Running.{IsWhole};
 

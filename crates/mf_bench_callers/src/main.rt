@@ -1,9 +1,11 @@
-//! The program `mf_bench_callers`: does the steps of several callers many times, so that `bench/run` can time them.
+//! The program `mf_bench_callers`: does the steps of several callers many times, so that
+//! `bench/run` can time them.
 //!
-//! Its words are `asks COUNT` (as many entries of an edition asked for and made ready), `retire COUNT` (the same, and the edition
-//! retired), `events COUNT` (so many events of a mixed script), `turns THREADS COUNT` (so many turns in each thread) and
-//! `counts COUNT`. It prints one line, a number that comes of all calls, so that none can be left out. After any other words it
-//! ends with status 1.
+//! Its words are `asks COUNT` (as many entries of an edition asked for and made ready), `retire
+//! COUNT` (the same, and the edition retired), `events COUNT` (so many events of a mixed script),
+//! `turns THREADS COUNT` (so many turns in each thread) and `counts COUNT`. It prints one line, a
+//! number that comes of all calls, so that none can be left out. After any other words it ends with
+//! status 1.
 #![tactic(auto)]
 
 mod entries;

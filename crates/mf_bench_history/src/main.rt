@@ -1,8 +1,10 @@
-//! The program `mf_bench_history`: judges a record of several callers many times, so that `bench/run` can time it.
+//! The program `mf_bench_history`: judges a record of several callers many times, so that
+//! `bench/run` can time it.
 //!
-//! Its words are `record ENTRIES EXCHANGES COUNT`: a log of so many entries, all of caller 0, and so many lines with their replies,
-//! of which every one that publishes nothing is of one of ten other callers; it is judged so often. It prints one line, the
-//! verdict and how often it came. After any other words it ends with status 1.
+//! Its words are `record ENTRIES EXCHANGES COUNT`: a log of so many entries, all of caller 0, and
+//! so many lines with their replies, of which every one that publishes nothing is of one of ten
+//! other callers; it is judged so often. It prints one line, the verdict and how often it came.
+//! After any other words it ends with status 1.
 #![tactic(auto)]
 
 mod record;

@@ -1,8 +1,10 @@
-//! The program `mf_bench_hub`: callers of a hub publish and pin in threads, so that `bench/run` can time them.
+//! The program `mf_bench_hub`: callers of a hub publish and pin in threads, so that `bench/run` can
+//! time them.
 //!
-//! Its words are `publications MESSAGES THREADS COUNT` (each thread publishes one of so many messages anew, so often) and
-//! `pins MESSAGES THREADS COUNT` (each thread pins and unpins the newest edition so often, while one more publishes once for each
-//! hundred of them). It prints one line, the number of the newest edition at the end, and how many calls were refused. After any
+//! Its words are `publications MESSAGES THREADS COUNT` (each thread publishes one of so many
+//! messages anew, so often) and `pins MESSAGES THREADS COUNT` (each thread pins and unpins the
+//! newest edition so often, while one more publishes once for each hundred of them). It prints one
+//! line, the number of the newest edition at the end, and how many calls were refused. After any
 //! other words it ends with status 1.
 #![tactic(auto)]
 

@@ -24,8 +24,8 @@ use std::alloc::{AllocError, Global};
 /// The most callers that may join: the first one, and a million after it.
 pub(crate) const MOST_CALLERS: u64 = 1_000_001;
 
-/// What callers share: the log, the callers' states and what is held of the editions, both by their numbers, and the
-/// compilations of the live editions' messages, each of which makes a `P`.
+/// What callers share: the log, the callers' states and what is held of the editions, both by their
+/// numbers, and the compilations of the live editions' messages, each of which makes a `P`.
 ///
 /// No ticket lies in it: who has claimed a message keeps the ticket. So a board can be dropped.
 #[derive(Debug, Drop)]
@@ -170,7 +170,8 @@ impl<P: Drop> Board<P> {
         put_away(&mut self.callers, caller);
     }
 
-    /// A caller asks for a message of the edition that it has pinned. Where it claims it, it gets its ticket.
+    /// A caller asks for a message of the edition that it has pinned. Where it claims it, it gets
+    /// its ticket.
     pub fn ask(&mut self, caller: u64, index: u32) -> Result<Asked, AllocError>
         requires kept { IsKept self.old }
         requires yours { IsYours (board_world self.old) (Ask caller index) }
@@ -270,8 +271,8 @@ impl<P: Drop> Board<P> {
         drop_dead(&mut self.flights, &self.editions, newest, edition);
     }
 
-    /// A caller makes an entry, after which the newest edition has so many messages. The edition's number is returned.
-    /// After an error everything is as it was.
+    /// A caller makes an entry, after which the newest edition has so many messages. The edition's
+    /// number is returned. After an error everything is as it was.
     pub fn publish(
         &mut self,
         caller: u64,

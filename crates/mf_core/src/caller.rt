@@ -1,7 +1,8 @@
 /// The state of a caller.
 #[derive(Clone, Copy, Debug, PartialEq, Eq, Drop)]
 pub struct CallerState {
-    /// Whether it has joined and not left. One that isn't joined has no pin and no claim, and zeros.
+    /// Whether it has joined and not left. One that isn't joined has no pin and no claim, and
+    /// zeros.
     pub joined: bool,
     /// The number of its entries.
     pub made: u64,

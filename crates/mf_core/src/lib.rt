@@ -1,4 +1,5 @@
-//! Callers that publish, pin, compile and leave: the core of a server of several callers, event by event.
+//! Callers that publish, pin, compile and leave: the core of a server of several callers, event by
+//! event.
 #![tactic(auto)]
 
 mod board;

@@ -1,7 +1,9 @@
-//! The program `mf_core_rows`: looks whether the events of a World are told what the rows of `rows.txt` say, what a plain list of
-//! entries says of a random walk, and what a full log says. It prints each difference and how many there are.
+//! The program `mf_core_rows`: looks whether the events of a World are told what the rows of
+//! `rows.txt` say, what a plain list of entries says of a random walk, and what a full log says. It
+//! prints each difference and how many there are.
 //!
-//! A row is a list of events, separated by commas, and behind `=>` what the last of them is told, or why it is refused.
+//! A row is a list of events, separated by commas, and behind `=>` what the last of them is told,
+//! or why it is refused.
 #![tactic(auto)]
 
 mod full;

@@ -1,4 +1,5 @@
-//! The same events by plain lists: every caller, and every entry of every edition, is looked for from the start.
+//! The same events by plain lists: every caller, and every entry of every edition, is looked for
+//! from the start.
 use mf_core::{CallerState, CoreError, Event, Told};
 use std::alloc::{AllocError, Global};
 

@@ -16,14 +16,16 @@ use mf_text::{List, Pair, Text};
 use mf_value::{Called, Content, Kept, NumberFunction, NumberOption, Options, Selects, Value};
 use std::alloc::{AllocError, Global};
 
-/// `:number`: a number with options of its own, and the value that it has (Unicode TS 35, Part 9, "The `:number` function").
+/// `:number`: a number with options of its own, and the value that it has (Unicode TS 35, Part 9,
+/// "The `:number` function").
 ///
 /// The operand is a number, or a text that is a number literal of at most 36 digits and a scale of
 /// at most 36; there is no value for any other one, and for none. The options are `select`,
-/// `signDisplay`, `useGrouping`, `minimumIntegerDigits` and `minimumSignificantDigits` and `maximumSignificantDigits` (1 to 21), `minimumFractionDigits` and
-/// `maximumFractionDigits` (0 to 20); each that isn't written is inherited from the operand. An option with another name or
-/// a value that isn't allowed is refused, and so is a `select` that a variable gives; then the
-/// number selects nothing.
+/// `signDisplay`, `useGrouping`, `minimumIntegerDigits` and `minimumSignificantDigits` and
+/// `maximumSignificantDigits` (1 to 21), `minimumFractionDigits` and `maximumFractionDigits` (0 to
+/// 20); each that isn't written is inherited from the operand. An option with another name or a
+/// value that isn't allowed is refused, and so is a `select` that a variable gives; then the number
+/// selects nothing.
 pub fn number_fn(
     alloc: Global,
     record: &LocaleRecord,
@@ -37,8 +39,9 @@ pub fn number_fn(
     number_called(alloc, record, NumberFunction::Number, &[], operand, options)
 }
 
-/// `:integer`: the same of the number cut toward zero (Unicode TS 35, Part 9, "The `:integer` function"). It has neither
-/// `minimumFractionDigits`, `maximumFractionDigits` nor `minimumSignificantDigits`, and inherits none of them.
+/// `:integer`: the same of the number cut toward zero (Unicode TS 35, Part 9, "The `:integer`
+/// function"). It has neither `minimumFractionDigits`, `maximumFractionDigits` nor
+/// `minimumSignificantDigits`, and inherits none of them.
 pub fn integer_fn(
     alloc: Global,
     record: &LocaleRecord,

@@ -4,7 +4,9 @@
 //! A row is an operand, calls behind `|`, and, behind `?`, keys that are ranked; then `=>` and what
 //! is expected: the shown text or `bad-operand`, the places of the options that the last call
 //! refuses, and the ranks. `-` is no operand, `{` begins the source of a fallback, and an option
-//! `name=$text` is given by a variable. A line `record` names the JSON of the locale of the rows below it, a line `handler` a name and the JSON of what it does, and a row `check` says what is wrong with such.
+//! `name=$text` is given by a variable. A line `record` names the JSON of the locale of the rows
+//! below it, a line `handler` a name and the JSON of what it does, and a row `check` says what is
+//! wrong with such.
 #![tactic(auto)]
 
 mod asking;

@@ -21,7 +21,8 @@ pub fn full_log(alloc: Global, reply: &str) -> Result<Verdict, AllocError> {
     judge(alloc, &log, reply)
 }
 
-/// The verdict on a log that one message of caller 1 fills, and on a line of caller 0 with this reply.
+/// The verdict on a log that one message of caller 1 fills, and on a line of caller 0 with this
+/// reply.
 pub fn full_store(alloc: Global, reply: &str) -> Result<Verdict, AllocError> {
     let mut source = String::with_capacity(alloc, LONGEST_SOURCE)?;
     for _ in 0..LONGEST_SOURCE {

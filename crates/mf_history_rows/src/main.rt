@@ -36,7 +36,8 @@ fn take<'a>(case: &mut Case, rt: &HostRuntime, row: &'a str) -> io::Result<Optio
     Ok(None)
 }
 
-/// Prints the verdicts on logs that are full: caller 0 has a line, and caller 1 has entries without one.
+/// Prints the verdicts on logs that are full: caller 0 has a line, and caller 1 has entries without
+/// one.
 fn tell_full(rt: &HostRuntime) -> io::Result<()> {
     let alloc = rt.alloc();
     for entries in ["65536", "65535"] {

@@ -14,8 +14,8 @@ use std::alloc::{AllocError, Global};
 use std::marker::Model;
 use std::sync::Arc;
 
-/// The desk of one caller: the log of its publications, the newest edition, and the plans of those of its messages that were
-/// asked for. A message is compiled when it is first asked for.
+/// The desk of one caller: the log of its publications, the newest edition, and the plans of those
+/// of its messages that were asked for. A message is compiled when it is first asked for.
 ///
 /// It is seen as the log, the indexes of the messages that are ready, and the edition's quits.
 #[derive(Debug, Drop)]
@@ -51,8 +51,8 @@ impl Alone {
         })
     }
 
-    /// Publishes a change, as an entry of caller 0, and gives the number of the edition that it makes. No message of that edition
-    /// is compiled. After an error everything is as it was.
+    /// Publishes a change, as an entry of caller 0, and gives the number of the edition that it
+    /// makes. No message of that edition is compiled. After an error everything is as it was.
     pub fn publish(&mut self, change: Change) -> Result<u64, PublishError>
         ensures edition { IfOk result (λ edition. edition ≡ length self.new.log) }
         ensures ok { OnOk result (self.new ≡ published self.old change) }
@@ -77,8 +77,9 @@ impl Alone {
         self.publications.newest()
     }
 
-    /// The plan of the message at an index of the newest edition: it is compiled unless it is ready. Where there is no memory
-    /// for that, the edition has one more quit; where there is none to share the plan, the message is ready.
+    /// The plan of the message at an index of the newest edition: it is compiled unless it is
+    /// ready. Where there is no memory for that, the edition has one more quit; where there is none
+    /// to share the plan, the message is ready.
     pub fn plan(&mut self, index: u32) -> Result<Arc<Plan>, AllocError>
         requires { index < message_count self.old }
         ensures plan { IfOk result (λ plan. IsPlanAt (newest_edition self.old.log) index (arc_value plan)) }

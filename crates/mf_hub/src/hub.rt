@@ -19,7 +19,8 @@ use std::alloc::{AllocError, Global};
 use std::marker::Model;
 use std::sync::{Arc, Wait};
 
-/// A log that callers publish to at once, with its newest edition, seen as its name, which its passes have too.
+/// A log that callers publish to at once, with its newest edition, seen as its name, which its
+/// passes have too.
 #[derive(Drop)]
 pub struct Hub {
     pub(crate) alloc: Global,
@@ -63,7 +64,8 @@ impl Hub {
         self.turn.give(seat, store, act);
     }
 
-    /// The number of the newest edition, which is no less than what the pass has seen. It waits for nobody and takes no memory.
+    /// The number of the newest edition, which is no less than what the pass has seen. It waits for
+    /// nobody and takes no memory.
     pub fn newest(&self, pass: &mut Pass) -> u64
         requires own { pass.old.hub ≡ self.now }
         ensures own { pass.new.hub ≡ pass.old.hub }
@@ -76,10 +78,11 @@ impl Hub {
         pass.seen
     }
 
-    /// Publishes a change, as the next entry of the pass's caller, and gives the number of the edition that it makes.
+    /// Publishes a change, as the next entry of the pass's caller, and gives the number of the
+    /// edition that it makes.
     ///
-    /// It takes two turns. Between them it makes the edition, and in the second one makes it again only where another caller has
-    /// published meanwhile.
+    /// It takes two turns. Between them it makes the edition, and in the second one makes it again
+    /// only where another caller has published meanwhile.
     pub fn publish<R: Wait>(
         &self,
         rt: &R,
@@ -123,7 +126,8 @@ impl Hub {
         newest
     }
 
-    /// Publishes a change, where this is the edition that it made when the pass had seen as much as now.
+    /// Publishes a change, where this is the edition that it made when the pass had seen as much as
+    /// now.
     fn publish_made<R: Wait>(
         &self,
         rt: &R,
@@ -157,7 +161,8 @@ impl Hub {
         }
     }
 
-    /// Pins the newest edition, in place of an earlier pin, and gives it. Where it can't be shared, an earlier pin stays.
+    /// Pins the newest edition, in place of an earlier pin, and gives it. Where it can't be shared,
+    /// an earlier pin stays.
     pub fn pin<R: Wait>(&self, rt: &R, pass: &mut Pass) -> Result<Arc<Edition>, AllocError>
         requires own { pass.old.hub ≡ self.now }
         ensures own { pass.new.hub ≡ pass.old.hub }
@@ -249,7 +254,8 @@ impl Hub {
         }
     }
 
-    /// Afterwards the pass has seen what the note's pass had seen. It waits for nobody and takes no memory.
+    /// Afterwards the pass has seen what the note's pass had seen. It waits for nobody and takes no
+    /// memory.
     pub fn learn(&self, pass: &mut Pass, note: Note)
         requires own { pass.old.hub ≡ self.now }
         requires its_own { note.hub ≡ self.now }
@@ -286,7 +292,8 @@ impl Hub {
         self.end(&mut into.seat, store, Act::Leave);
     }
 
-    /// Ends the hub, and gives its log. It is refused where other passes haven't left, with their number.
+    /// Ends the hub, and gives its log. It is refused where other passes haven't left, with their
+    /// number.
     pub fn close<R: Wait>(self, rt: &R, pass: Pass) -> Result<Log, (CloseError, Hub, Pass)>
         requires own { pass.hub ≡ self }
         ensures closes { IfOk result (Closes pass.view) }

@@ -1,4 +1,5 @@
-//! Who keeps a log, its newest edition and the plans of its messages: [`Alone`] does for one caller.
+//! Who keeps a log, its newest edition and the plans of its messages: [`Alone`] does for one
+//! caller.
 #![tactic(auto)]
 
 mod alone;

@@ -46,7 +46,8 @@ impl Pass {
         let _ = &self.seat;
     }
 
-    /// How many entries of the log the caller has seen, which is the number of the newest edition that it knows of.
+    /// How many entries of the log the caller has seen, which is the number of the newest edition
+    /// that it knows of.
     pub fn seen(&self) -> u64
         ensures { result ≡ length self.now.view.log }
     {

@@ -21,8 +21,9 @@ use std::alloc::AllocError;
 use std::sync::{Arc, Wait};
 
 impl Hub {
-    /// The plan of the message at an index of the edition that the pass has pinned: it is compiled unless it is ready. Where
-    /// another caller compiles it, this one waits. Where there is no memory for it, the ticket is given back.
+    /// The plan of the message at an index of the edition that the pass has pinned: it is compiled
+    /// unless it is ready. Where another caller compiles it, this one waits. Where there is no
+    /// memory for it, the ticket is given back.
     pub fn plan<R: Wait>(
         &self,
         rt: &R,
@@ -172,8 +173,8 @@ impl Hub {
         }
     }
 
-    /// Compiles the message that a caller has claimed, while others take turns. Where the plan can't be shared once more for the
-    /// caller, the message is ready all the same.
+    /// Compiles the message that a caller has claimed, while others take turns. Where the plan
+    /// can't be shared once more for the caller, the message is ready all the same.
     fn compile<R: Wait, G: Gate>(
         &self,
         rt: &R,

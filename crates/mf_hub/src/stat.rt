@@ -6,7 +6,8 @@ pub struct Stat {
     pub edition: u64,
     /// How often the compilation of one of its messages was begun.
     pub starts: u64,
-    /// How often one was given up for want of memory. Of each message no more than 2^31 - 1 are counted.
+    /// How often one was given up for want of memory. Of each message no more than 2^31 - 1 are
+    /// counted.
     pub quits: u64,
 }
 

@@ -22,8 +22,8 @@ use std::marker::Model;
 use std::mem;
 use std::sync::Arc;
 
-/// What the callers of a hub share: the board of the core, the newest edition, and the number of tickets that were given
-/// back, which stays at 2^64 - 1.
+/// What the callers of a hub share: the board of the core, the newest edition, and the number of
+/// tickets that were given back, which stays at 2^64 - 1.
 #[derive(Debug, Drop)]
 pub struct Store {
     board: Board<Arc<Plan>>,
@@ -116,7 +116,8 @@ impl Store {
         Ok((first, second))
     }
 
-    /// The edition after a change: this one, where it is the next one, and else one that is made now.
+    /// The edition after a change: this one, where it is the next one, and else one that is made
+    /// now.
     fn next_edition(
         &self,
         alloc: Global,
@@ -137,8 +138,8 @@ impl Store {
         Ok(made_from(alloc, &self.newest, change)?)
     }
 
-    /// A caller makes an entry. The edition before it is returned. The edition that it makes is this one, where it is the next one.
-    /// After an error all is as it was.
+    /// A caller makes an entry. The edition before it is returned. The edition that it makes is
+    /// this one, where it is the next one. After an error all is as it was.
     pub(crate) fn publish(
         &mut self,
         alloc: Global,
@@ -214,8 +215,8 @@ impl Store {
         self.board.leave(caller);
     }
 
-    /// A caller asks for a message of the edition that it has pinned: none where another compiles it. After an error all is as it
-    /// was.
+    /// A caller asks for a message of the edition that it has pinned: none where another compiles
+    /// it. After an error all is as it was.
     pub(crate) fn ask(
         &mut self,
         caller: u64,

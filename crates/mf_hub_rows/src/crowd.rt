@@ -41,7 +41,8 @@ pub fn passes_of<R: Wait>(
     Ok(passes)
 }
 
-/// Publishes, pins, makes a pass that publishes too, learns what that one saw, and lets it leave: so many times.
+/// Publishes, pins, makes a pass that publishes too, learns what that one saw, and lets it leave:
+/// so many times.
 pub fn walk<R: Wait>(rt: &R, alloc: Global, hub: &Hub, pass: Pass, rounds: u32) -> Walked
     requires { pass.hub ≡ hub.now }
     ensures { CameFrom hub.now result }
@@ -146,7 +147,8 @@ pub fn publish_together<R: Threads + Wait + Sync>(
     )
 }
 
-/// Makes passes until one is refused, but no more than so many: how many were made, and the refusal.
+/// Makes passes until one is refused, but no more than so many: how many were made, and the
+/// refusal.
 pub fn make_passes<R: Wait>(
     rt: &R,
     hub: &Hub,
@@ -225,8 +227,8 @@ pub fn share_notes(
     Ok(shared)
 }
 
-/// The same so many times, in threads, and each time they then learn from one another what they saw: the passes, and how often
-/// something was wrong.
+/// The same so many times, in threads, and each time they then learn from one another what they
+/// saw: the passes, and how often something was wrong.
 pub fn walk_often<R: Threads + Wait + Sync>(
     rt: &R,
     alloc: Global,

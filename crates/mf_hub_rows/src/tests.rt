@@ -1,4 +1,5 @@
-//! What no clause says: that turns come, and what comes of many threads; and each call with ample memory.
+//! What no clause says: that turns come, and what comes of many threads; and each call with ample
+//! memory.
 use crate::{
     closed_log, gather, is_numbered, leave_all, make_passes, message, passes_of, publish_together,
     refused_close, too_large, walk_often,

@@ -1,9 +1,11 @@
-//! What the program meets outside itself: bytes to read, bytes to write, connections, and how it ends.
+//! What the program meets outside itself: bytes to read, bytes to write, connections, and how it
+//! ends.
 //!
-//! A session reads from a [`Source`] and writes to a [`Sink`], and a [`Listener`] gives pairs of them. Each tells how
-//! often it has failed, so that a contract can say that a failure is answered only where one came. [`MemorySource`],
-//! [`MemorySink`] and [`MemoryLinks`] stand in memory and fail where they are told to; [`StdSource`], [`StdSink`] and
-//! [`TcpLinks`] stand over std's readers, writers and listeners.
+//! A session reads from a [`Source`] and writes to a [`Sink`], and a [`Listener`] gives pairs of
+//! them. Each tells how often it has failed, so that a contract can say that a failure is answered
+//! only where one came. [`MemorySource`], [`MemorySink`] and [`MemoryLinks`] stand in memory and
+//! fail where they are told to; [`StdSource`], [`StdSink`] and [`TcpLinks`] stand over std's
+//! readers, writers and listeners.
 #![tactic(auto)]
 
 mod bounds;

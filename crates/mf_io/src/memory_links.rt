@@ -9,10 +9,11 @@ use crate::{Failed, Listener, MemorySink, MemorySource, Sink, Source};
 use std::marker::Model;
 use std::vec::IntoIter;
 
-/// A listener that gives connections of memory in their order, and fails at the calls that it is told to.
+/// A listener that gives connections of memory in their order, and fails at the calls that it is
+/// told to.
 ///
-/// Calls are counted from 1. A call that fails gives no connection. A test that is to see what a connection was
-/// answered lends its sinks, since whoever is given a connection owns it.
+/// Calls are counted from 1. A call that fails gives no connection. A test that is to see what a
+/// connection was answered lends its sinks, since whoever is given a connection owns it.
 #[derive(Drop)]
 pub struct MemoryLinks<S = MemorySource, K = MemorySink> {
     pairs: IntoIter<(S, K)>,

@@ -12,8 +12,8 @@ use std::marker::Model;
 
 /// A sink that holds in memory what it takes, and fails at the calls that it is told to.
 ///
-/// A write takes at most so many bytes at once. Writes and flushes are counted together, from 1. A call that fails
-/// takes nothing, and a write that finds no memory fails.
+/// A write takes at most so many bytes at once. Writes and flushes are counted together, from 1. A
+/// call that fails takes nothing, and a write that finds no memory fails.
 #[derive(Drop)]
 pub struct MemorySink {
     taken: Vec<u8>,
@@ -33,7 +33,8 @@ impl Model for MemorySink {
 }
 
 impl MemorySink {
-    /// A sink whose writes take at most `most` bytes, and whose calls with the numbers in `failing` fail.
+    /// A sink whose writes take at most `most` bytes, and whose calls with the numbers in `failing`
+    /// fail.
     pub fn new(alloc: Global, most: usize, failing: Vec<u64>) -> MemorySink
         requires { 1 ≤ most }
         ensures taken { result.taken ≡ [] }

@@ -12,8 +12,9 @@ use std::marker::Model;
 
 /// A source that gives pieces of memory, and fails at the calls that it is told to.
 ///
-/// A read gives bytes of one piece alone: the rest of the piece at hand, or as much of it as the buffer holds. An
-/// empty piece is passed over. Calls are counted from 1. A call that fails gives nothing.
+/// A read gives bytes of one piece alone: the rest of the piece at hand, or as much of it as the
+/// buffer holds. An empty piece is passed over. Calls are counted from 1. A call that fails gives
+/// nothing.
 #[derive(Drop)]
 pub struct MemorySource {
     pieces: Vec<Vec<u8>>,
@@ -99,7 +100,8 @@ fn next_byte(pieces: &[Vec<u8>], piece: usize, byte: usize) -> (usize, usize)
     (piece, byte)
 }
 
-// Copies the front of the bytes into the front of the buffer, as much as both hold, and says how many.
+// Copies the front of the bytes into the front of the buffer, as much as both hold, and says how
+// many.
 fn copy_front(bytes: &[u8], buf: &mut [u8]) -> usize
     ensures count { result ≡ min (length bytes.now) (length buf.old) }
     ensures copied { buf.new ≡ take result bytes.now ++ drop result buf.old }

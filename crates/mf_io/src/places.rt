@@ -12,8 +12,8 @@ pub enum Place {
     AfterCompile,
 }
 
-/// What a caller passes on its way. In the program it does nothing. In a test it may hold a caller until others have
-/// come.
+/// What a caller passes on its way. In the program it does nothing. In a test it may hold a caller
+/// until others have come.
 pub trait Gate {
     /// Lets the caller go on, at once or later.
     fn at<R: Wait>(&self, rt: &R, place: Place);

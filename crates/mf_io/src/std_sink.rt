@@ -10,11 +10,11 @@ use std::io;
 use std::io::{ErrorKind, Write};
 use std::marker::Model;
 
-/// A sink over any writer. It tells the bytes that the writer tells, which for files, sockets and terminals are
-/// none.
+/// A sink over any writer. It tells the bytes that the writer tells, which for files, sockets and
+/// terminals are none.
 ///
-/// A call that a signal interrupts is tried again, up to 100 times. Every other error counts as a fault, and so
-/// does a write that takes nothing of a piece that isn't empty.
+/// A call that a signal interrupts is tried again, up to 100 times. Every other error counts as a
+/// fault, and so does a write that takes nothing of a piece that isn't empty.
 #[derive(Drop)]
 pub struct StdSink<W> {
     writer: W,

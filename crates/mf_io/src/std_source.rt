@@ -12,10 +12,11 @@ use std::marker::Model;
 /// How often a call that a signal interrupted is tried again.
 pub(crate) const TRIES: u32 = 100;
 
-/// A source over any reader. It tells the bytes that the reader tells, which for files, sockets and terminals
-/// are none.
+/// A source over any reader. It tells the bytes that the reader tells, which for files, sockets and
+/// terminals are none.
 ///
-/// A read that a signal interrupts is tried again, up to 100 times. Every other error counts as a fault.
+/// A read that a signal interrupts is tried again, up to 100 times. Every other error counts as a
+/// fault.
 #[derive(Drop)]
 pub struct StdSource<R> {
     reader: R,

@@ -10,11 +10,12 @@ use std::io::ErrorKind;
 use std::marker::Model;
 use std::net::{Net, OpenListener, OpenStream, TcpListener};
 
-/// A listener at a TCP address, which begins to listen at its first call. It tells nothing of what is to come.
+/// A listener at a TCP address, which begins to listen at its first call. It tells nothing of what
+/// is to come.
 ///
-/// A call that a signal interrupts, or that meets a connection whose peer has given it up, is tried again, up to 100
-/// times. Every other error counts as a fault. What is written to a connection isn't held back to be sent in larger
-/// parts.
+/// A call that a signal interrupts, or that meets a connection whose peer has given it up, is tried
+/// again, up to 100 times. Every other error counts as a fault. What is written to a connection
+/// isn't held back to be sent in larger parts.
 #[derive(Drop)]
 pub struct TcpLinks<R: Net> {
     net: R,

@@ -66,13 +66,15 @@ impl From<AllocError> for GatherError {
 // How many bytes a read of an input asks for at most.
 const BUFFER: u64 = 65_536;
 
-/// Reads an input to its end, where that comes before `cap` bytes. It asks for at most 65,536 bytes at a time, and
-/// never takes more than `cap`. Room for `cap` bytes is made before anything is read.
+/// Reads an input to its end, where that comes before `cap` bytes. It asks for at most 65,536 bytes
+/// at a time, and never takes more than `cap`. Room for `cap` bytes is made before anything is
+/// read.
 ///
 /// # Errors
 ///
-/// `Failed` where a read failed, when fewer than `cap` bytes had come; `Full` where `cap` bytes came and the end was not
-/// told by then; and `OutOfMemory`, before anything is read. At the first two what was read is lost.
+/// `Failed` where a read failed, when fewer than `cap` bytes had come; `Full` where `cap` bytes
+/// came and the end was not told by then; and `OutOfMemory`, before anything is read. At the first
+/// two what was read is lost.
 #[tactic(auto, using(crate::proofs::Gathering::at_most))]
 pub fn gather<S: Source>(alloc: Global, source: &mut S, cap: u64) -> Result<Vec<u8>, GatherError>
     requires { 1 ≤ cap }
@@ -96,7 +98,8 @@ pub fn gather<S: Source>(alloc: Global, source: &mut S, cap: u64) -> Result<Vec<
     }
 }
 
-/// Reads an input to its end, or `cap` bytes of it, by way of a buffer, and says whether the end was told.
+/// Reads an input to its end, or `cap` bytes of it, by way of a buffer, and says whether the end
+/// was told.
 fn read_into<S: Source>(
     input: &mut Vec<u8>,
     source: &mut S,

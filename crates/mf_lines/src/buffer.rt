@@ -17,8 +17,8 @@ const MORE_THAN_A_LINE: usize = 65_536;
 
 /// The bytes of an input that wait for an answer.
 ///
-/// They lie in one piece of memory, and are moved to its front where there is too little room behind them. Then they are
-/// the front of one line, so that no byte is moved twice.
+/// They lie in one piece of memory, and are moved to its front where there is too little room
+/// behind them. Then they are the front of one line, so that no byte is moved twice.
 #[derive(Drop)]
 pub(crate) struct Buffer {
     bytes: Vec<u8>,
@@ -71,7 +71,8 @@ impl Buffer {
         self.start += count;
     }
 
-    /// Reads at most so many bytes, and puts them behind those that wait. None is the end of the input.
+    /// Reads at most so many bytes, and puts them behind those that wait. None is the end of the
+    /// input.
     pub(crate) fn read<S: Source>(&mut self, source: &mut S, most: u64) -> Result<usize, Failed>
         requires room { length self.old.bytes + 4096 ≤ self.old.size }
         requires some { 1 ≤ most }
@@ -90,7 +91,8 @@ impl Buffer {
         Ok(count)
     }
 
-    /// Moves the bytes that wait to the front, where there are none or too little room is behind them.
+    /// Moves the bytes that wait to the front, where there are none or too little room is behind
+    /// them.
     fn make_room(&mut self)
         requires { length self.old.bytes + 4096 ≤ self.old.size }
         ensures bytes { self.new.bytes ≡ self.old.bytes }

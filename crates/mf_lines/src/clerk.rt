@@ -10,7 +10,8 @@ use mf_io::{Failed, Sink, send};
 use mf_text::Text;
 use std::alloc::{AllocError, Global};
 
-/// Who answers lines at a desk, one after the other. A clerk may keep memory from line to line, on which no answer rests.
+/// Who answers lines at a desk, one after the other. A clerk may keep memory from line to line, on
+/// which no answer rests.
 pub trait Clerk {
     /// What is kept from one line to the next.
     type Desk;
@@ -22,7 +23,8 @@ pub trait Clerk {
     ///
     /// # Errors
     ///
-    /// `AllocError` where there is no memory for the reply: the line is answered by the memory line then.
+    /// `AllocError` where there is no memory for the reply: the line is answered by the memory line
+    /// then.
     fn answer(
         &mut self,
         alloc: Global,

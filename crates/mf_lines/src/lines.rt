@@ -13,8 +13,9 @@ use mf_io::{Failed, Sink};
 use mf_wire::MEMORY_LINE;
 use std::alloc::Global;
 
-/// Answers the whole lines at the front of some bytes, up to one of more than `most` bytes, and passes the replies on.
-/// Says how many bytes these lines are with their line feeds. The first `known` bytes hold no line feed.
+/// Answers the whole lines at the front of some bytes, up to one of more than `most` bytes, and
+/// passes the replies on. Says how many bytes these lines are with their line feeds. The first
+/// `known` bytes hold no line feed.
 pub(crate) fn answer_whole<C: Clerk, K: Sink>(
     alloc: Global,
     clerk: &mut C,
@@ -38,7 +39,8 @@ pub(crate) fn answer_whole<C: Clerk, K: Sink>(
     Ok(count)
 }
 
-/// Answers the whole lines at the front of some bytes, as `answer_whole` does, but passes no reply on.
+/// Answers the whole lines at the front of some bytes, as `answer_whole` does, but passes no reply
+/// on.
 fn answer_lines<C: Clerk, K: Sink>(
     alloc: Global,
     clerk: &mut C,
@@ -67,8 +69,8 @@ fn answer_lines<C: Clerk, K: Sink>(
     Ok(bytes.len() - rest.len())
 }
 
-/// Where the first line ends, if it has its line feed and at most `most` bytes. The first `known` bytes hold no line
-/// feed.
+/// Where the first line ends, if it has its line feed and at most `most` bytes. The first `known`
+/// bytes hold no line feed.
 fn line_end(bytes: &[u8], known: usize, most: u64) -> Option<usize>
     requires within { known ≤ length bytes.now }
     requires one { IsOneLine (take known bytes.now) }
@@ -79,7 +81,8 @@ fn line_end(bytes: &[u8], known: usize, most: u64) -> Option<usize>
     if end as u64 <= most { Some(end) } else { None }
 }
 
-/// Answers what follows the last line feed of an input, where it isn't empty, and passes the reply on.
+/// Answers what follows the last line feed of an input, where it isn't empty, and passes the reply
+/// on.
 pub(crate) fn answer_last<C: Clerk, K: Sink>(
     alloc: Global,
     clerk: &mut C,

@@ -13,18 +13,20 @@ use std::alloc::Global;
 
 /// Answers each line of an input in order, and writes each reply with its line feed.
 ///
-/// All whole lines that were read are answered, and their replies passed on, before more is read. What follows the last
-/// line feed is a line too, where it isn't empty and the end of the input is told. A read gets room for at least 4,096
-/// bytes, or for as many as the cap on the input leaves, where these are fewer.
+/// All whole lines that were read are answered, and their replies passed on, before more is read.
+/// What follows the last line feed is a line too, where it isn't empty and the end of the input is
+/// told. A read gets room for at least 4,096 bytes, or for as many as the cap on the input leaves,
+/// where these are fewer.
 ///
 /// It ends with one of these:
 ///
 /// - `Ended`: the input was read to its end, and each line was answered.
 /// - `ReadFault`: the source failed. The whole lines that were read are answered.
 /// - `WriteFault`: the sink failed. Every reply but the last begun was written whole.
-/// - `LineTooLong`: a line has more bytes than its cap, its line feed left out. The lines before it are answered.
-/// - `InputFull`: as many bytes as the cap on the input came, and the end wasn't told by then. The whole lines among them
+/// - `LineTooLong`: a line has more bytes than its cap, its line feed left out. The lines before it
 ///   are answered.
+/// - `InputFull`: as many bytes as the cap on the input came, and the end wasn't told by then. The
+///   whole lines among them are answered.
 /// - `OutOfMemory`: there was no memory for a buffer. Nothing was read.
 pub fn answer_input<C: Clerk, S: Source, K: Sink>(
     alloc: Global,

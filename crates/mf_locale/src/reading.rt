@@ -15,18 +15,16 @@ use std::alloc::Global;
 /// The locale record that a JSON object is.
 ///
 /// It has these fields, and others are passed over: `version`, the number 1; `dir`, which is `ltr`,
-/// `rtl` or `unknown`;
-/// `decimal`, `minus` and `plus`, texts of 1 to 16 bytes; `group`, a text of at most 16 bytes; `primary`, `secondary`
-/// and `minGroup`, whole numbers from 1 to 9; `plural` and `ordinal`, texts of plural rules
-/// (Unicode TS 35, Part 3, "Plural rules syntax").
+/// `rtl` or `unknown`; `decimal`, `minus` and `plus`, texts of 1 to 16 bytes; `group`, a text of at
+/// most 16 bytes; `primary`, `secondary` and `minGroup`, whole numbers from 1 to 9; `plural` and
+/// `ordinal`, texts of plural rules (Unicode TS 35, Part 3, "Plural rules syntax").
 ///
 /// # Errors
 ///
 /// The fields are looked at in the order `version`, `dir`, `decimal`, `group`, `minus`, `plus`,
-/// `primary`, `secondary`,
-/// `minGroup`, `plural`, `ordinal`, and the first that is wrong is named: `BadField` where it is missing, of another
-/// kind or out of range, and `BadRule` where it is a text with a bad rule. `OutOfMemory`. It is
-/// never `BadTag`.
+/// `primary`, `secondary`, `minGroup`, `plural`, `ordinal`, and the first that is wrong is named:
+/// `BadField` where it is missing, of another kind or out of range, and `BadRule` where it is a
+/// text with a bad rule. `OutOfMemory`. It is never `BadTag`.
 pub fn read_record(alloc: Global, value: &Value) -> Result<LocaleRecord, LocaleError>
     ensures ok { IfOk result (λ r. record_of (view value.now) ≡ Ok r) }
     ensures refused { IfErr result (IsDue (record_of (view value.now))) }

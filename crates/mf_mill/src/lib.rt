@@ -1,4 +1,5 @@
-//! A large run: a script of many requests through a session with one caller, and the line that sums its replies up.
+//! A large run: a script of many requests through a session with one caller, and the line that sums
+//! its replies up.
 #![tactic(auto)]
 
 mod milling;

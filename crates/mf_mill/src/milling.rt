@@ -8,13 +8,16 @@ use mf_io::{Failed, Sink, Status};
 use mf_lines::send_line;
 use std::alloc::Global;
 
-/// Answers a script of so many requests for sentences in memory, and writes the one line that sums the replies up.
+/// Answers a script of so many requests for sentences in memory, and writes the one line that sums
+/// the replies up.
 ///
-/// The script publishes what English says of its numbers, then a message before each hundred of requests for it, and asks for
-/// the counts at the end. The line has the last edition, the requests, the compilations that were begun in the last edition, and
-/// the bytes of the texts of all sentences.
+/// The script publishes what English says of its numbers, then a message before each hundred of
+/// requests for it, and asks for the counts at the end. The line has the last edition, the
+/// requests, the compilations that were begun in the last edition, and the bytes of the texts of
+/// all sentences.
 ///
-/// It ends with `Ended`, `WriteFault`, or `OutOfMemory`, where some request found no memory and nothing was written.
+/// It ends with `Ended`, `WriteFault`, or `OutOfMemory`, where some request found no memory and
+/// nothing was written.
 pub fn mill<K: Sink>(alloc: Global, count: u32, sink: &mut K) -> Status
     ensures mills { Mills count result (sink.new ≡ sink.old) (K.taken sink.old) (K.taken sink.new) }
     ensures write_fault { result ≡ Status.WriteFault

@@ -32,7 +32,8 @@ pub(crate) fn script(alloc: Global, count: u32) -> Result<Vec<u8>, AllocError>
     Ok(input)
 }
 
-/// Puts the request behind j others at the end of an input, with the publication that may stand before it.
+/// Puts the request behind j others at the end of an input, with the publication that may stand
+/// before it.
 fn push_request(input: &mut Vec<u8>, j: u32) -> Result<(), AllocError>
     requires { j < 4294967295 }
     ensures { OnOk result (input.new.items ≡ input.old.items

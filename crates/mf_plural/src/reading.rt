@@ -18,9 +18,10 @@ use std::alloc::{AllocError, Global};
 ///
 /// # Errors
 ///
-/// `BadRule` with the number of the first rule that is none: it isn't of the form, its keyword stood in an earlier rule,
-/// it is a rule for `other` with a condition or for another keyword without one, it takes a
-/// remainder by zero, or a range's first value is above its last. `OutOfMemory`.
+/// `BadRule` with the number of the first rule that is none: it isn't of the form, its keyword
+/// stood in an earlier rule, it is a rule for `other` with a condition or for another keyword
+/// without one, it takes a remainder by zero, or a range's first value is above its last.
+/// `OutOfMemory`.
 pub fn read_rules(alloc: Global, text: &str) -> Result<Rules, RuleError>
     ensures spelled { IfOk result (λ rules. SpellsRules text.now rules) }
     ensures bad { IfErr result (IfBadRule (IsFirstBad text.now)) }

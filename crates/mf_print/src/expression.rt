@@ -10,7 +10,8 @@ use mf_tree::{
 };
 use std::alloc::AllocError;
 
-/// `{`, the operand, the function, the attributes, `}`: each part after the first stands behind one space.
+/// `{`, the operand, the function, the attributes, `}`: each part after the first stands behind one
+/// space.
 pub fn push_expression(out: &mut Text, expression: &Expression) -> Result<(), AllocError>
     ensures { OnOk result (out.new ≡ out.old ++ expression_source expression.now) }
 {

@@ -37,7 +37,8 @@ fn push_piece(out: &mut Text, piece: &Piece) -> Result<(), AllocError>
     }
 }
 
-/// `{#` or `{/`, the identifier, options and attributes each behind a space, ` /` where it is standalone, `}`.
+/// `{#` or `{/`, the identifier, options and attributes each behind a space, ` /` where it is
+/// standalone, `}`.
 fn push_markup(out: &mut Text, markup: &Markup) -> Result<(), AllocError>
     ensures { OnOk result (out.new ≡ out.old ++ markup_source markup.now) }
 {

@@ -24,8 +24,8 @@ const COUNT: usize = 2;
 
 /// A value in a slot that callers take in turn, and a count that they read without waiting.
 ///
-/// `T` is the value, `A` names what is done to it, `V` is what a seat knows, and `P` the client's rule. It is seen as the
-/// table that it stands on, which its seats name.
+/// `T` is the value, `A` names what is done to it, `V` is what a seat knows, and `P` the client's
+/// rule. It is seen as the table that it stands on, which its seats name.
 #[derive(Drop)]
 pub struct Queue<T, A, V, P: QueueRule<T, V>> {
     table: Board<T, A, V, P>,

@@ -15,7 +15,8 @@ use std::alloc::{AllocError, Global};
 /// are least, the first selector counting most. Of variants whose ranks are equal it is the first.
 ///
 /// The scope then has the errors of the selectors from left to right, each followed by
-/// `bad-selector` where it can't select, and behind them `bad-variant-key` for each key that is none for its value, column by column.
+/// `bad-selector` where it can't select, and behind them `bad-variant-key` for each key that is
+/// none for its value, column by column.
 pub fn choose<'a, F: Functions>(
     alloc: Global,
     scope: &mut Scope<'a>,

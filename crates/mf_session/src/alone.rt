@@ -30,14 +30,16 @@ impl Clerk for AloneClerk {
     }
 }
 
-/// Answers each line of a source at a desk, in order, and writes each reply with its line feed to a sink.
+/// Answers each line of a source at a desk, in order, and writes each reply with its line feed to a
+/// sink.
 ///
-/// A line asks for a publication, for a sentence of the newest edition, for what there is to say of a source, or for the counts.
-/// A line that finds no memory is answered by the memory line.
+/// A line asks for a publication, for a sentence of the newest edition, for what there is to say of
+/// a source, or for the counts. A line that finds no memory is answered by the memory line.
 ///
-/// The session ends with `Ended` (the input was read to its end), `ReadFault`, `WriteFault`, `LineTooLong` (a line has more bytes
-/// than its cap), `InputFull` (as many bytes as the cap on the input came, and the end wasn't told by then) or `OutOfMemory`,
-/// before anything is read. What was published stands.
+/// The session ends with `Ended` (the input was read to its end), `ReadFault`, `WriteFault`,
+/// `LineTooLong` (a line has more bytes than its cap), `InputFull` (as many bytes as the cap on the
+/// input came, and the end wasn't told by then) or `OutOfMemory`, before anything is read. What was
+/// published stands.
 pub fn session_alone<S: Source, K: Sink>(
     alloc: Global,
     desk: &mut Alone,

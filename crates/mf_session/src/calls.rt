@@ -21,7 +21,8 @@ use mf_wire::{Accepted, Reply, Request, reply_line};
 use std::alloc::{AllocError, Global};
 use std::sync::Wait;
 
-/// The reply line to a line of the caller of a pass. Where there is no memory for it, the line is answered by the memory line.
+/// The reply line to a line of the caller of a pass. Where there is no memory for it, the line is
+/// answered by the memory line.
 pub(crate) fn answer_shared<R: Wait, G: Gate>(
     rt: &R,
     alloc: Global,
@@ -75,8 +76,8 @@ fn share_checked<R: Wait>(
     }
 }
 
-/// Publishes a change, and gives the reply line, or gives that of why it is refused. Room for the line of an accepted one is made
-/// first, so that nothing is published where there is no memory.
+/// Publishes a change, and gives the reply line, or gives that of why it is refused. Room for the
+/// line of an accepted one is made first, so that nothing is published where there is no memory.
 fn share<R: Wait>(
     rt: &R,
     alloc: Global,

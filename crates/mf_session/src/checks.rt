@@ -12,8 +12,8 @@ use std::alloc::AllocError;
 /// The most presets or entries that a handler may have.
 const MOST: usize = 0xFFFF_FFFF;
 
-/// Why a change may not be published, if it may not: a handler alone is checked. For one that has 2^32 presets or entries
-/// or more, which no line has, there is no memory.
+/// Why a change may not be published, if it may not: a handler alone is checked. For one that has
+/// 2^32 presets or entries or more, which no line has, there is no memory.
 pub fn reason_against(change: &Change) -> Result<Option<Reason>, AllocError>
     ensures { IfOk result (λ reason. reason ≡ asked.reason_against change.now) }
 {

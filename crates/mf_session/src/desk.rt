@@ -18,7 +18,8 @@ use mf_text::Text;
 use mf_wire::{Reply, Request, WireError, reply_line};
 use std::alloc::{AllocError, Global};
 
-/// The reply line to a line at the desk of one caller. Where there is no memory for it, the line is answered by the memory line.
+/// The reply line to a line at the desk of one caller. Where there is no memory for it, the line is
+/// answered by the memory line.
 pub(crate) fn answer(
     alloc: Global,
     reader: &mut RequestReader,

@@ -14,8 +14,8 @@ use mf_text::{Arguments, Text};
 use mf_wire::Reply;
 use std::alloc::{AllocError, Global};
 
-/// The reply of the newest edition to a request for the message of an id, looked up along the chain of a tag,
-/// in an edition of at least the number `since`.
+/// The reply of the newest edition to a request for the message of an id, looked up along the chain
+/// of a tag, in an edition of at least the number `since`.
 pub(crate) fn format(
     alloc: Global,
     desk: &mut Alone,

@@ -18,8 +18,9 @@ use mf_wire::Reply;
 use std::alloc::{AllocError, Global};
 use std::sync::Wait;
 
-/// The reply of the newest edition to a request for the message of an id, looked up along the chain of a tag, in an edition of at
-/// least the number `since`. The edition is pinned while it is looked at.
+/// The reply of the newest edition to a request for the message of an id, looked up along the chain
+/// of a tag, in an edition of at least the number `since`. The edition is pinned while it is looked
+/// at.
 pub(crate) fn format_shared<R: Wait, G: Gate>(
     rt: &R,
     alloc: Global,
@@ -84,7 +85,8 @@ fn format_pinned<R: Wait, G: Gate>(
     }
 }
 
-/// The reply that formats a message that was found in the edition that is pinned, with the record of its tag.
+/// The reply that formats a message that was found in the edition that is pinned, with the record
+/// of its tag.
 fn format_found<R: Wait, G: Gate>(
     rt: &R,
     alloc: Global,

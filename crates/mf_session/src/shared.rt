@@ -63,12 +63,13 @@ impl<'c, R: Wait, G: Gate> Clerk for SharedClerk<'c, R, G> {
     }
 }
 
-/// Answers each line of a source over a hub, in order, as the caller of a pass, and writes each reply with its line feed to a
-/// sink. The pass comes back without a pin.
+/// Answers each line of a source over a hub, in order, as the caller of a pass, and writes each
+/// reply with its line feed to a sink. The pass comes back without a pin.
 ///
-/// Lines, replies and statuses are those of [`session_alone`](crate::session_alone). Each sentence is of the edition that is the
-/// newest when the request is answered; it is pinned for that and let go before the reply is written, so that a slow peer holds
-/// no edition. The gate is passed before each pin, and before and after each compilation.
+/// Lines, replies and statuses are those of [`session_alone`](crate::session_alone). Each sentence
+/// is of the edition that is the newest when the request is answered; it is pinned for that and let
+/// go before the reply is written, so that a slow peer holds no edition. The gate is passed before
+/// each pin, and before and after each compilation.
 pub fn session_shared<S: Source, K: Sink, G: Gate, R: Wait>(
     rt: &R,
     alloc: Global,

@@ -3,8 +3,8 @@
 //!
 //! The tables are those of characters, texts, readers, sources, the errors of sources, and
 //! canonical sources; each says at its head how its rows read. A line that begins with `# ` is a
-//! comment, a line `given ..` holds for the rows below it, and
-//! `\u{2068}` stands for the character of that number. Behind the differences of a table stand its counts.
+//! comment, a line `given ..` holds for the rows below it, and `\u{2068}` stands for the character
+//! of that number. Behind the differences of a table stand its counts.
 #![tactic(auto)]
 
 mod characters;

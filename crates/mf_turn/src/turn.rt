@@ -49,7 +49,8 @@ impl<T: Shared> Model for Seat<T> {
 }
 
 impl<T: Shared + Drop> Turn<T> {
-    /// A turn for the value, and its first seat, that of caller 0. Without memory the value is dropped.
+    /// A turn for the value, and its first seat, that of caller 0. Without memory the value is
+    /// dropped.
     pub fn new(alloc: Global, value: T) -> Result<(Turn<T>, Seat<T>), AllocError>
         requires { IsNew (T.account value) }
         ensures own { IfOk result (λ made. made.1.turn ≡ made.0) }

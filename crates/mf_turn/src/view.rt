@@ -16,7 +16,8 @@ pub struct View<E> {
     pub number: Option<u64>,
     /// The entries that it has seen.
     pub log: LinkedList<E>,
-    /// What another seat had seen that it took in. It has seen these too from the next step on that reads the log.
+    /// What another seat had seen that it took in. It has seen these too from the next step on that
+    /// reads the log.
     pub told: LinkedList<E>,
     /// How many entries are its own.
     pub made: u64,

@@ -105,7 +105,8 @@ pub fn count_twice(turn: &Turn<Tally>, seat: &mut Seat<Tally>) -> (u64, u64)
     (first, second)
 }
 
-/// Counts so many times, and answers the last count, or none where a count was less than the one before.
+/// Counts so many times, and answers the last count, or none where a count was less than the one
+/// before.
 pub fn watch(turn: &Turn<Tally>, seat: Seat<Tally>, times: u64) -> Option<u64>
     requires { IsFree turn.now seat }
 {

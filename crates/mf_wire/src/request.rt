@@ -41,8 +41,8 @@ pub enum Request {
 ///
 /// # Errors
 ///
-/// `BadJson`, `BadRequest` with the first field that is missing, of another kind or out of range, `BadLocale` with that
-/// of a locale record, and `OutOfMemory`.
+/// `BadJson`, `BadRequest` with the first field that is missing, of another kind or out of range,
+/// `BadLocale` with that of a locale record, and `OutOfMemory`.
 pub fn read_request(alloc: Global, line: &[u8]) -> Result<Request, WireError>
     ensures request { IfOk result (λ request. line_request line.now ≡ Ok request) }
     ensures refused { IfErr result (IsDue (line_request line.now)) }

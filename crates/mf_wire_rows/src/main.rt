@@ -1,16 +1,15 @@
 //! The program `mf_wire_rows`: looks whether requests are read, published and found again as the
-//! rows of `lines.txt` and
-//! `editions.txt` say, and whether replies are written as the lines of `replies.txt`; prints each difference and how many there
-//! are.
+//! rows of `lines.txt` and `editions.txt` say, and whether replies are written as the lines of
+//! `replies.txt`; prints each difference and how many there are.
 //!
 //! A row is a request behind `> `, or a question about the editions made so far behind `? `; below
 //! it stands what is told, behind `< `. A request that publishes makes an edition, and an empty
-//! line begins again with no edition. What is asked:
-//! `items`, the messages in the order of their indices; `find en a`, the index of a message; `along en-GB a`, where it is
-//! found along the chain of the tag; `decimal en-GB`, the decimal separator of the record that
-//! speaks for the tag; `handler a:b`, what the handler of the name does; `argument a`, the argument
-//! of the last request; `used`, the bytes of the log. A reply line stands behind `= `: it is read
-//! as JSON, made a reply by the names of its members, and has to be the line of that.
+//! line begins again with no edition. What is asked: `items`, the messages in the order of their
+//! indices; `find en a`, the index of a message; `along en-GB a`, where it is found along the chain
+//! of the tag; `decimal en-GB`, the decimal separator of the record that speaks for the tag;
+//! `handler a:b`, what the handler of the name does; `argument a`, the argument of the last
+//! request; `used`, the bytes of the log. A reply line stands behind `= `: it is read as JSON, made
+//! a reply by the names of its members, and has to be the line of that.
 #![tactic(auto)]
 
 mod asking;
