@@ -5,5 +5,7 @@
 mod command;
 mod lint;
 mod pipe;
+mod shared;
 
 pub use command::{Command, top};
+pub use shared::{SharedCommand, top_shared};
