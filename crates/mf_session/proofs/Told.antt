@@ -447,7 +447,7 @@ known_calls : (lines replies : List (List ℕ)) (p q : PassState) → Served Cal
 known_calls [] [] p q served = ap (λ (z : PassState). z.view) served
 known_calls [] (said ∷ replies) p q served = absurd served
 known_calls (line ∷ lines) [] p q served = absurd served
-known_calls (line ∷ lines) (said ∷ replies) p q served = (served.0.view, served.1.1, known_calls lines replies served.0 q served.2)
+known_calls (line ∷ lines) (said ∷ replies) p q served = (served.0.view, served.1.2, known_calls lines replies served.0 q served.2)
 
 same_hub : (lines replies : List (List ℕ)) (p q : PassState) → Served Calls p lines replies q → q.hub ≡ p.hub
 same_hub [] [] p q served = ap (λ (z : PassState). z.hub) served

@@ -53,9 +53,13 @@ pub data Call (line said : List ℕ) (p q : Known) : Type 0 where
   is_counted : (stat : Stat) → request_of line ≡ Ok AskStat → said ≡ reply_line (stat_reply stat) → Tells stat q → Grows p q → Keeps p q
       → Call line said p q
 
--- the same, of a pass, which stays one of its hub
+-- a caller that had no pin has none
+abbrev pub StaysFree : Known → Known → Type 0
+StaysFree p q = p.pin ≡ None → q.pin ≡ None
+
+-- the same, of a pass, which stays one of its hub, and of which no pin is left when the reply is written
 abbrev pub Calls : PassState → List ℕ → List ℕ → PassState → Type 0
-Calls p line said q = (q.hub ≡ p.hub) × Call line said p.view q.view
+Calls p line said q = (q.hub ≡ p.hub) × StaysFree p.view q.view × Call line said p.view q.view
 
 -- the lines of a caller and their replies: they are its transcript over the log that it has seen at the end, from the edition on that
 -- it had seen before; it was served with the plan of every message that they were answered from; and no reply shows more quits than it

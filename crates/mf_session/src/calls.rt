@@ -3,7 +3,7 @@ ghost use Rattle.std.specs.Prelude.{◌≡◌, ◌≢◌, Contains, IfOk, OnErr,
 ghost use Rattle.std.specs.Arc.{arc_value};
 ghost use Rattle.std.specs.List.{AllByRecursion};
 ghost use Rattle.mf_hub.specs.Passes.{Grows, Keeps};
-ghost use Rattle.mf_session.specs.Sharing.{Call, Misses, SharesChange, SharesUnless, Shows};
+ghost use Rattle.mf_session.specs.Sharing.{Call, Misses, SharesChange, SharesUnless, Shows, StaysFree};
 ghost use Rattle.mf_transcript.specs.Asked.{reason_against};
 ghost use Rattle.mf_wire.specs.Replies.{memory_line};
 
@@ -34,6 +34,7 @@ pub(crate) fn answer_shared<R: Wait, G: Gate>(
 ) -> Result<Text, AllocError>
     requires own { pass.old.hub ≡ hub.now }
     ensures own { pass.new.hub ≡ pass.old.hub }
+    ensures free { StaysFree pass.old.view pass.new.view }
     ensures ok { IfOk result (λ said. Call line.now (encode_utf8_all said) pass.old.view pass.new.view) }
     ensures err { OnErr result (Call line.now memory_line pass.old.view pass.new.view) }
 {
@@ -66,6 +67,7 @@ fn share_checked<R: Wait>(
 ) -> Result<Text, AllocError>
     requires own { pass.old.hub ≡ hub.now }
     ensures own { pass.new.hub ≡ pass.old.hub }
+    ensures free { StaysFree pass.old.view pass.new.view }
     ensures ok { IfOk result (λ line. SharesUnless (reason_against change)
         change (encode_utf8_all line) pass.old.view pass.new.view) }
     ensures err { OnErr result (Grows pass.old.view pass.new.view × Keeps pass.old.view pass.new.view) }
@@ -87,6 +89,7 @@ fn share<R: Wait>(
 ) -> Result<Text, AllocError>
     requires own { pass.old.hub ≡ hub.now }
     ensures own { pass.new.hub ≡ pass.old.hub }
+    ensures free { StaysFree pass.old.view pass.new.view }
     ensures ok { IfOk result (λ line. SharesChange
         change (encode_utf8_all line) pass.old.view pass.new.view) }
     ensures err { OnErr result (Grows pass.old.view pass.new.view × Keeps pass.old.view pass.new.view) }

@@ -4,7 +4,7 @@ ghost use Rattle.std.specs.Arc.{arc_value};
 ghost use Rattle.mf_answer.specs.Answers.{IsAnswer, IsAnswerIn, IsAnswerOf};
 ghost use Rattle.mf_edition.specs.Edition.{edition_of};
 ghost use Rattle.mf_hub.specs.Passes.{Grows, HasMessage, Keeps};
-ghost use Rattle.mf_session.specs.Sharing.{IsPinned, Misses, Shows, ShowsAt, ShowsFound};
+ghost use Rattle.mf_session.specs.Sharing.{IsPinned, Misses, Shows, ShowsAt, ShowsFound, StaysFree};
 ghost use Rattle.mf_transcript.specs.Replies.{IsFormatReply};
 ghost use Rattle.mf_transcript.specs.Served.{served_to};
 
@@ -34,6 +34,7 @@ pub(crate) fn format_shared<R: Wait, G: Gate>(
 ) -> Result<Reply, AllocError>
     requires own { pass.old.hub ≡ hub.now }
     ensures own { pass.new.hub ≡ pass.old.hub }
+    ensures free { StaysFree pass.old.view pass.new.view }
     ensures ok { IfOk result (λ reply. Shows tag.now id.now arguments.now since reply
         pass.old.view pass.new.view) }
     ensures err { OnErr result (Misses 1 pass.old.view pass.new.view) }
