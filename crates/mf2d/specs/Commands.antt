@@ -19,17 +19,17 @@ command_named word =
     if bytes_eq word (codes "pipe") then Some Pipe else
     (if bytes_eq word (codes "lint") then Some Lint else None)
 
--- a number whose decimal digits these are, without a leading zero, where it is from 1 to 100,000
-abbrev pub count_spelled : ℕ → List ℕ → Option ℕ
-count_spelled n digits = if bytes_eq digits (decimal n) && (nat_le 1 n && nat_le n 100000) then Some n else None
+-- a number whose decimal digits these are, without a leading zero, where it is from 1 to the most
+abbrev pub count_spelled : ℕ → ℕ → List ℕ → Option ℕ
+count_spelled most n digits = if bytes_eq digits (decimal n) && (nat_le 1 n && nat_le n most) then Some n else None
 
--- the count that bytes spell
-abbrev pub count_of : List ℕ → Option ℕ
-count_of digits = count_spelled (digits_value 10 digits) digits
+-- the count that bytes spell, of at most so many
+abbrev pub count_of : ℕ → List ℕ → Option ℕ
+count_of most digits = count_spelled most (digits_value 10 digits) digits
 
 -- the command that a word and the bytes of a number spell
 abbrev pub command_counted : List ℕ → List ℕ → Option Command
-command_counted word number = if bytes_eq word (codes "mill") then option_map Mill (count_of number) else None
+command_counted word number = if bytes_eq word (codes "mill") then option_map Mill (count_of 100000 number) else None
 
 -- the command that the words after the program's name spell
 abbrev pub command_of : List (List ℕ) → Option Command

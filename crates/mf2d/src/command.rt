@@ -52,15 +52,15 @@ fn command_counted(word: &str, number: &str) -> Option<Command>
     ensures { result ≡ command_counted (chars word.now) number.now }
 {
     if word == "mill" {
-        Some(Command::Mill(count_of(number)?))
+        Some(Command::Mill(count_of(MOST_REQUESTS, number)?))
     } else {
         None
     }
 }
 
-/// The count that a word spells: decimal digits without a leading zero, from 1 to 100,000.
-fn count_of(word: &str) -> Option<u32>
-    ensures { result ≡ count_of word.now }
+/// The count that a word spells: decimal digits without a leading zero, from 1 to the most.
+pub(crate) fn count_of(most: u32, word: &str) -> Option<u32>
+    ensures { result ≡ count_of most word.now }
 {
     // `parse` would pass over a plus, which stands before the digits.
     let first = word.as_bytes().first().copied().unwrap_or(b'0');
@@ -68,7 +68,7 @@ fn count_of(word: &str) -> Option<u32>
         return None;
     }
     match word.parse::<u32>() {
-        Ok(count) if count <= MOST_REQUESTS => Some(count),
+        Ok(count) if count <= most => Some(count),
         _ => None,
     }
 }

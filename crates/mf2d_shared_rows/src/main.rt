@@ -5,7 +5,7 @@
 //! line that is printed behind `< `, where all of them are known beforehand. Blocks are separated
 //! by empty lines, and a line that begins with `# ` is a comment. What is printed is cut into the
 //! replies to each caller and the log, the log is made again from the publications that were
-//! accepted, and `legal` judges them.
+//! accepted, and `legal` judges them. Then `serve` serves connections of memory.
 #![tactic(auto)]
 
 mod crowd;
@@ -13,6 +13,7 @@ mod faults;
 mod judging;
 mod meeting;
 mod running;
+mod serving;
 
 use judging::judged;
 use meeting::Meeting;
@@ -95,5 +96,6 @@ fn main(rt: HostRuntime) -> io::Result<ExitCode> {
     look_at_crowd(&rt, &rt)?;
     look_at_meeting(&rt, &rt)?;
     faults::look_at(&rt, &rt)?;
+    serving::look_at(&rt, &rt)?;
     Ok(ExitCode::from(u8::from(differences != 0)))
 }

@@ -1,20 +1,22 @@
-//! Runs of `rehearse` in memory.
-use mf_io::{Gate, MemorySink, MemorySource, Status};
+//! Runs of the commands in memory.
+use mf_io::{Gate, MemoryLinks, MemorySink, MemorySource, Status};
 use mf_text::{Text, Texts};
 use mf2d::top_shared;
 use std::alloc::{AllocError, Global};
 use std::sync::Wait;
 use std::thread::Threads;
 
-/// The words of the command.
-fn words(alloc: Global) -> Result<Texts, AllocError> {
-    let mut words = Texts::new(alloc);
-    words.push(Text::of(alloc, "rehearse")?)?;
-    Ok(words)
+/// The words of a command.
+pub fn texts(alloc: Global, words: &[&str]) -> Result<Texts, AllocError> {
+    let mut texts = Texts::new(alloc);
+    for word in words {
+        texts.push(Text::of(alloc, word)?)?;
+    }
+    Ok(texts)
 }
 
-/// The status of a run over these pieces of an input, and what was written. Reads and writes with
-/// the numbers in `failing` fail.
+/// The status of a rehearsal over these pieces of an input, and what was written. Reads and writes
+/// with the numbers in `failing` fail.
 pub fn run<R: Threads + Wait + Sync, G: Gate + Sync>(
     rt: &R,
     alloc: Global,
@@ -23,10 +25,11 @@ pub fn run<R: Threads + Wait + Sync, G: Gate + Sync>(
     failing_writes: Vec<u64>,
     gate: &G,
 ) -> Result<(Status, Vec<u8>), AllocError> {
-    let words = words(alloc)?;
+    let words = texts(alloc, &["rehearse"])?;
     let mut source = MemorySource::new(pieces, failing_reads);
     let mut sink = MemorySink::new(alloc, usize::MAX, failing_writes);
-    let status = top_shared(rt, alloc, &words, &mut source, &mut sink, gate);
+    let mut links: MemoryLinks = MemoryLinks::new(Vec::new(alloc), Vec::new(alloc));
+    let status = top_shared(rt, alloc, &words, &mut source, &mut sink, &mut links, gate);
     let written = Vec::from_slice(alloc, sink.taken())?;
     Ok((status, written))
 }

@@ -22,7 +22,7 @@ is_mill : (word : List ℕ) → IsUtf8 word → pointwise nat_eq word (codes "mi
 is_mill word text = same_tests word (codes "mill") text mill_text ∙ ap (pointwise nat_eq (chars word)) mill_chars
 
 abbrev counted : Bool → List ℕ → Option Command
-counted milling number = cond milling (option_map Mill (count_of number)) None
+counted milling number = cond milling (option_map Mill (count_of 100000 number)) None
 
 counted_by : (word number : List ℕ) (milling : Bool) → IsUtf8 word → pointwise nat_eq word (codes "mill") ≡ milling
     → command_counted (chars word) number ≡ counted milling number
