@@ -15,6 +15,9 @@
     ...     futures[9_999].result().text
     'Number 9,999.'
 
+With an address `Client` connects to `mf2d serve` instead, and shares its log with the other
+connections: `Client(address=("127.0.0.1", 7777))`.
+
 Where mf2d refuses a request, its call raises a subclass of `Refused`:
 
     >>> with Client() as client:
@@ -33,13 +36,14 @@ from __future__ import annotations
 
 import json
 import os
+import socket
 import subprocess
 import threading
 from collections import deque
 from concurrent.futures import Future
 from dataclasses import dataclass, field
 from decimal import Decimal
-from typing import Callable, Dict, List, Mapping, Optional, Union
+from typing import Callable, Dict, List, Mapping, Optional, Tuple, Union
 
 # The most bytes that a line may have, without its line feed.
 LONGEST_LINE = 1_048_576
@@ -141,10 +145,16 @@ class Mf2dError(Exception):
 
 
 class Ended(Mf2dError):
-    """The program ended before it answered. `status` is its exit status; 0 where it was closed."""
+    """The program or the connection ended before it answered. `status` is the program's exit
+    status, 0 where it was closed; None of a connection.
+    """
 
-    def __init__(self, status: int):
-        super().__init__(f"mf2d ended with status {status}")
+    def __init__(self, status: Optional[int]):
+        super().__init__(
+            "the connection to mf2d has ended"
+            if status is None
+            else f"mf2d ended with status {status}"
+        )
         self.status = status
 
 
@@ -248,7 +258,8 @@ class Pipeline:
 
 
 class Client:
-    """A running `mf2d pipe`, asked line by line. A context manager, which closes it at its end.
+    """A running `mf2d pipe`, or a connection to `mf2d serve`, asked line by line. A context manager,
+    which closes it at its end.
 
     Beside what it names, each call may raise:
 
@@ -256,18 +267,24 @@ class Client:
     - TypeError where a value can't be written as JSON;
     - BadRequest where a field is of another kind or out of range;
     - OutOfMemory where the program had no memory for the line;
-    - Ended where the program has ended, or the client was closed.
+    - Ended where the program or the connection has ended, or the client was closed.
 
     After an exception but Ended the client goes on, and the call has changed nothing.
     """
 
-    def __init__(self, program: Optional[str] = None):
-        """Starts `program pipe`; without a program that of MF2D, else ./mf2d of this repository.
+    def __init__(
+        self, program: Optional[str] = None, address: Optional[Tuple[str, int]] = None
+    ):
+        """Connects to `mf2d serve` at an address, which is a host and a port; without one it starts
+        `program pipe`, without a program that of MF2D, else ./mf2d of this repository.
 
-        Raises OSError where it can't be started.
+        Raises OSError where it can't be started or connected to.
         """
-        command = [program or os.environ.get("MF2D") or PROGRAM, "pipe"]
-        self._connection = Connection(command)
+        self._connection = Connection(
+            Socket(address)
+            if address is not None
+            else Program([program or os.environ.get("MF2D") or PROGRAM, "pipe"])
+        )
         self.pipeline = Pipeline(self._connection)
 
     def __enter__(self) -> Client:
@@ -382,18 +399,60 @@ class Client:
         return self.pipeline.stat().result()
 
 
-class Connection:
-    """A program that answers each line by one line, in order.
-
-    A thread of its own takes the replies as they come and holds no lock meanwhile, so that the
-    program can always write, and so goes on reading: however many lines are written before the
-    first reply is looked at, no one waits for ever.
-    """
+class Program:
+    """A program's pipes."""
 
     def __init__(self, command: List[str]):
         self._program = subprocess.Popen(command, stdin=subprocess.PIPE, stdout=subprocess.PIPE)
+        self.replies = self._program.stdout
+
+    def write(self, line: bytes) -> None:
+        self._program.stdin.write(line)
+        self._program.stdin.flush()
+
+    def end_requests(self) -> None:
+        self._program.stdin.close()
+
+    def wait(self) -> Optional[int]:
+        """The status that the program ends with."""
+        self.replies.close()
+        return self._program.wait()
+
+
+class Socket:
+    """A connection to a server."""
+
+    def __init__(self, address: Tuple[str, int]):
+        self._socket = socket.create_connection(address)
+        self._socket.setsockopt(socket.IPPROTO_TCP, socket.TCP_NODELAY, 1)
+        self.replies = self._socket.makefile("rb")
+
+    def write(self, line: bytes) -> None:
+        self._socket.sendall(line)
+
+    def end_requests(self) -> None:
+        self._socket.shutdown(socket.SHUT_WR)
+
+    def wait(self) -> Optional[int]:
+        """None, since a connection tells no status."""
+        self.replies.close()
+        self._socket.close()
+        return None
+
+
+class Connection:
+    """A peer that answers each line by one line, in order.
+
+    A thread of its own takes the replies as they come and holds no lock meanwhile, so that the
+    peer can always write, and so goes on reading: however many lines are written before the
+    first reply is looked at, no one waits for ever.
+    """
+
+    def __init__(self, peer: Union[Program, Socket]):
+        self._peer = peer
         self._lock = threading.Lock()
         self._waiting: deque = deque()
+        self._is_over = False
         self._status: Optional[int] = None
         self._taker = threading.Thread(target=self._take_replies, daemon=True)
         self._taker.start()
@@ -404,31 +463,30 @@ class Connection:
         future: Future = Future()
         future.set_running_or_notify_cancel()
         with self._lock:
-            if self._status is not None:
+            if self._is_over:
                 future.set_exception(Ended(self._status))
                 return future
             self._waiting.append((future, read))
             try:
-                self._program.stdin.write(line)
-                self._program.stdin.flush()
-            except (BrokenPipeError, ValueError):
-                # The program has ended, or was closed: the other thread tells so to all who wait.
+                self._peer.write(line)
+            except (OSError, ValueError):
+                # The peer has ended, or was closed: the other thread tells so to all who wait.
                 pass
         return future
 
     def close(self) -> None:
-        """Ends the input, and waits for the program's end."""
+        """Ends the requests, and waits for the peer's end."""
         with self._lock:
             try:
-                self._program.stdin.close()
-            except BrokenPipeError:
+                self._peer.end_requests()
+            except OSError:
                 pass
         self._taker.join()
 
     def _take_replies(self) -> None:
-        """Hands each reply to the future that is first in the queue, up to the program's end."""
+        """Hands each reply to the future that is first in the queue, up to the peer's end."""
         try:
-            for line in self._program.stdout:
+            for line in self._peer.replies:
                 future, read = self._waiting.popleft()
                 try:
                     future.set_result(read_line(line, read))
@@ -438,11 +496,10 @@ class Connection:
             self._tell_the_end()
 
     def _tell_the_end(self) -> None:
-        """Tells all who wait that the program has ended."""
-        self._program.stdout.close()
-        status = self._program.wait()
+        """Tells all who wait that the peer has ended."""
+        status = self._peer.wait()
         with self._lock:
-            self._status = status
+            self._is_over, self._status = True, status
         # No call adds to those who wait any more. They are told without the lock, since what a
         # caller does then may call again.
         for future, _ in self._waiting:
